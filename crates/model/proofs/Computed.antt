@@ -1,0 +1,46 @@
+-- The claims that the checker computes: document 01's starred figures and its listing. Assumes nothing.
+use mathlib.Core.Path.{refl}
+use Rattle.model.specs.Basics.{if_then_else_, _and_, _or_, bit, sum, count, all, from, joined, before}
+use Rattle.model.specs.Table.{bins, shape, firstBin, blockBins, table, header, over, written}
+use Rattle.model.specs.Place.{intervalOf, indexOf, blockOf, rank, bin, position, held, others, binSize, located, locatedRefusal, blockOfBin, rankAt, includes, holder, holderRefusal, holderBucket, bucketAt}
+use Rattle.model.specs.Due.{due, dueOfBins, dueOfBlock}
+use Rattle.model.specs.Refusal.{first, outside, rises, headerOutside, arraysShort, topsWrong, endsWrong, blocksWrong, holdingsWrong, adjustmentOf, adjustmentsWrong, sizeOutside, fewBuckets, shrinks, unchanged, blocksFull, bucketPast, binPast, placePast, roomShort}
+use Rattle.model.specs.Initial.{initial}
+use Rattle.model.specs.Expansion.{newTops, has, dueAfter, someFall, lastBlock, lengthened, gain, pieces, filled, plan, parts, planFor, parted, movedAfter, extended, drained, expanded, differs, moved}
+use Rattle.model.specs.Relocations.{row, rowIf, rows, page}
+use Rattle.model.specs.Calls.{answer, tableTests, sizeTests, growthTests, intervalsFull, tableReply, arraysAfter, initialRefusal, initialReply, initialArrays, expandRefusal, expandReply, expandArrays, rowsOf, relocationsRefusal, relocationsReply, relocationsRows, placeRefusal, placeReply, findRefusal, findReply, binSizeRefusal, binSizeReply, roomRefusal, roomReply, saveRefusal, saveReply, saveBytes, loadTests, loadRefusal, loadReply, loadArrays}
+use Rattle.model.specs.Console.{text, inFront, linesOf, wordsOf, same, digitsOnly, valueFrom, value, isNumber, command, read, digits, decimal, line, noMap, current, isFresh, isUnreadable, commandTests, commandRefusal, moveLines, accepted, acceptedText, after, printed, printedAll, output}
+use Rattle.model.specs.Figures.{blank, started, grow, grows, answered, computed, starred}
+use Rattle.model.specs.Claims.{Figures, Listing}
+
+pub figures : Figures
+unfolding if_then_else_ _and_ _or_ bit sum count all from joined before bins shape firstBin blockBins table header
+    over written intervalOf indexOf blockOf rank bin position held others binSize located locatedRefusal blockOfBin
+    rankAt includes holder holderRefusal holderBucket bucketAt due dueOfBins dueOfBlock first outside rises
+    headerOutside arraysShort topsWrong endsWrong blocksWrong holdingsWrong adjustmentOf adjustmentsWrong sizeOutside
+    fewBuckets shrinks unchanged blocksFull bucketPast binPast placePast roomShort initial newTops has dueAfter someFall
+    lastBlock lengthened gain pieces filled plan parts planFor parted movedAfter extended drained expanded differs moved
+    row rowIf rows page answer tableTests sizeTests growthTests intervalsFull tableReply arraysAfter initialRefusal
+    initialReply initialArrays expandRefusal expandReply expandArrays rowsOf relocationsRefusal relocationsReply
+    relocationsRows placeRefusal placeReply findRefusal findReply binSizeRefusal binSizeReply roomRefusal roomReply
+    saveRefusal saveReply saveBytes loadTests loadRefusal loadReply loadArrays text inFront linesOf wordsOf same
+    digitsOnly valueFrom value isNumber command read digits decimal line noMap current isFresh isUnreadable commandTests
+    commandRefusal moveLines accepted acceptedText after printed printedAll output blank started grow grows answered
+    computed starred
+figures = refl
+
+pub listing : Listing
+unfolding if_then_else_ _and_ _or_ bit sum count all from joined before bins shape firstBin blockBins table header
+    over written intervalOf indexOf blockOf rank bin position held others binSize located locatedRefusal blockOfBin
+    rankAt includes holder holderRefusal holderBucket bucketAt due dueOfBins dueOfBlock first outside rises
+    headerOutside arraysShort topsWrong endsWrong blocksWrong holdingsWrong adjustmentOf adjustmentsWrong sizeOutside
+    fewBuckets shrinks unchanged blocksFull bucketPast binPast placePast roomShort initial newTops has dueAfter someFall
+    lastBlock lengthened gain pieces filled plan parts planFor parted movedAfter extended drained expanded differs moved
+    row rowIf rows page answer tableTests sizeTests growthTests intervalsFull tableReply arraysAfter initialRefusal
+    initialReply initialArrays expandRefusal expandReply expandArrays rowsOf relocationsRefusal relocationsReply
+    relocationsRows placeRefusal placeReply findRefusal findReply binSizeRefusal binSizeReply roomRefusal roomReply
+    saveRefusal saveReply saveBytes loadTests loadRefusal loadReply loadArrays text inFront linesOf wordsOf same
+    digitsOnly valueFrom value isNumber command read digits decimal line noMap current isFresh isUnreadable commandTests
+    commandRefusal moveLines accepted acceptedText after printed printedAll output blank started grow grows answered
+    computed starred
+listing = refl

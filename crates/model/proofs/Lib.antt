@@ -1,0 +1,5 @@
+pub mod Counts
+pub mod Dues
+pub mod Balances
+pub mod Rivals
+pub mod Computed

@@ -1,0 +1,187 @@
+-- Document 01, 'The program rackmap': its lines, what it prints, and a session. Text is a list of bytes. Assumes nothing.
+use Prim.Native.Nat.{ℕ, zero, suc, _+_, _-_, _*_, _/_, _%_}
+use Prim.Native.Char.{code}
+use Prim.Native.String.{String, [] as end-of-text, _∷_ as _before-text_}
+use mathlib.Core.Bool.{Bool, true, false, not}
+use mathlib.Core.List.{List, [], _∷_, _++_, map}
+use lib.ListN.{length}
+use lib.Dec.{leb, ltb, eqb}
+use Rattle.model.specs.Basics.{if_then_else_, _and_, joined}
+use Rattle.model.specs.Table.{Shape, Table}
+use Rattle.model.specs.Place.{bin, position, bucketAt}
+use Rattle.model.specs.Refusal.{Test, first, bucketPast, placePast}
+use Rattle.model.specs.Initial.{initial}
+use Rattle.model.specs.Expansion.{expanded, moved}
+use Rattle.model.specs.Relocations.{rows}
+use Rattle.model.specs.Calls.{answer, sizeTests, growthTests, intervalsFull}
+use Rattle.model.specs.declared.command.Command.{Command}
+use Rattle.model.specs.declared.command.Command.the-variants.{Fresh, Grow, Where, At, Moves, Unreadable}
+
+-- the bytes of a text
+unfoldable pub text : String → List ℕ
+text end-of-text = []
+text (c before-text rest) = code c ∷ text rest
+
+-- LINES
+
+-- c in front of the first of the lists
+unfoldable pub inFront : ℕ → List (List ℕ) → List (List ℕ)
+inFront c [] = (c ∷ []) ∷ []
+inFront c (l ∷ ls) = (c ∷ l) ∷ ls
+
+-- the lines of the input: each up to a line feed, and the bytes after the last line feed, if any
+unfoldable pub linesOf : List ℕ → List (List ℕ)
+linesOf [] = []
+linesOf (c ∷ rest) = if eqb c 10 then [] ∷ linesOf rest else inFront c (linesOf rest)
+
+-- the words of a line: what stands before, between and after its blanks
+unfoldable pub wordsOf : List ℕ → List (List ℕ)
+wordsOf [] = [] ∷ []
+wordsOf (c ∷ rest) = if eqb c 32 then [] ∷ wordsOf rest else inFront c (wordsOf rest)
+
+unfoldable pub same : List ℕ → List ℕ → Bool
+same [] [] = true
+same [] (d ∷ ds) = false
+same (c ∷ cs) [] = false
+same (c ∷ cs) (d ∷ ds) = eqb c d and same cs ds
+
+unfoldable pub digitsOnly : List ℕ → Bool
+digitsOnly [] = true
+digitsOnly (c ∷ cs) = leb 48 c and leb c 57 and digitsOnly cs
+
+-- the value of a word's digits after v
+unfoldable pub valueFrom : ℕ → List ℕ → ℕ
+valueFrom v [] = v
+valueFrom v (c ∷ cs) = valueFrom (10 * v + (c - 48)) cs
+
+unfoldable pub value : List ℕ → ℕ
+value w = valueFrom 0 w
+
+-- a decimal number: one to ten digits, at most 4,294,967,295
+unfoldable pub isNumber : List ℕ → Bool
+isNumber w = leb 1 (length w) and leb (length w) 10 and digitsOnly w and leb (value w) 4_294_967_295
+
+-- a word and its numbers
+unfoldable pub command : List (List ℕ) → Command
+command [] = Unreadable
+command (w ∷ []) = if same w (text "moves") then Moves else Unreadable
+command (w ∷ a ∷ []) = if same w (text "where") and isNumber a then Where (value a) else Unreadable
+command (w ∷ a ∷ b ∷ []) =
+    if not (isNumber a and isNumber b) then Unreadable
+    else if same w (text "fresh") then Fresh (value a) (value b)
+    else if same w (text "grow") then Grow (value a) (value b)
+    else if same w (text "at") then At (value a) (value b)
+    else Unreadable
+command (w ∷ a ∷ b ∷ c ∷ rest) = Unreadable
+
+-- what a line says; one of more than 64 bytes is unreadable
+unfoldable pub read : List ℕ → Command
+read l = if leb (length l) 64 then command (wordsOf l) else Unreadable
+
+-- PRINTING
+
+-- the digits of n, at most k of them, the highest first
+unfoldable pub digits : ℕ → ℕ → List ℕ
+digits zero n = []
+digits (suc k) n = (if ltb n 10 then [] else digits k (n / 10)) ++ ((48 + n % 10) ∷ [])
+
+-- a 32-bit number in decimal
+unfoldable pub decimal : ℕ → List ℕ
+decimal n = digits 10 n
+
+-- a word and its numbers, with single blanks between, and a line feed
+unfoldable pub line : String → List ℕ → List ℕ
+line w ns = text w ++ joined (map (λ n. 32 ∷ decimal n) ns) ++ (10 ∷ [])
+
+-- A SESSION
+
+-- no map; a fresh map; the map before the latest growth and the map after it
+pub data Session : Type 0 where
+  empty : Session
+  fresh : Table → Session
+  grown : Table → Table → Session
+
+unfoldable pub noMap : Session → Bool
+noMap empty = true
+noMap (fresh t) = false
+noMap (grown t u) = false
+
+unfoldable pub current : Session → Table
+current empty = record { buckets = 0; tops = []; intervals = [] }
+current (fresh t) = t
+current (grown t u) = u
+
+unfoldable pub isFresh : Command → Bool
+isFresh (Fresh b n) = true
+isFresh (Grow b n) = false
+isFresh (Where x) = false
+isFresh (At y p) = false
+isFresh Moves = false
+isFresh Unreadable = false
+
+unfoldable pub isUnreadable : Command → Bool
+isUnreadable (Fresh b n) = false
+isUnreadable (Grow b n) = false
+isUnreadable (Where x) = false
+isUnreadable (At y p) = false
+isUnreadable Moves = false
+isUnreadable Unreadable = true
+
+abbrev pub sizes : ℕ → ℕ → Shape
+sizes b n = record { buckets = b; bins = n }
+
+-- the tests of a command on the table t
+unfoldable pub commandTests : Table → Command → List Test
+commandTests t (Fresh b n) = sizeTests (sizes b n)
+commandTests t (Grow b n) = growthTests t (sizes b n) ++ ((8, intervalsFull t (sizes b n)) ∷ [])
+commandTests t (Where x) = (6, bucketPast t x) ∷ []
+commandTests t (At y p) = (7, placePast t y p) ∷ []
+commandTests t Moves = []
+commandTests t Unreadable = []
+
+unfoldable pub commandRefusal : Session → Command → ℕ
+commandRefusal s c =
+    first ((10, noMap s and not (isFresh c)) ∷ (23, isUnreadable c) ∷ commandTests (current s) c)
+
+-- the `move` lines of the latest growth
+unfoldable pub moveLines : Session → List ℕ
+moveLines empty = []
+moveLines (fresh t) = []
+moveLines (grown t u) = joined (map (line "move") (rows t u))
+
+-- an accepted command: the session after it, and what is printed
+unfoldable pub accepted : Session → Command → Session
+accepted s (Fresh b n) = fresh (initial (sizes b n))
+accepted s (Grow b n) = grown (current s) (expanded (current s) (sizes b n))
+accepted s (Where x) = s
+accepted s (At y p) = s
+accepted s Moves = s
+accepted s Unreadable = s
+
+unfoldable pub acceptedText : Session → Command → List ℕ
+acceptedText s (Fresh b n) = line "ok" (0 ∷ length (initial (sizes b n) .intervals) ∷ [])
+acceptedText s (Grow b n) =
+    line "ok"
+    (moved (current s) (expanded (current s) (sizes b n))
+    ∷ length (expanded (current s) (sizes b n) .intervals)
+    ∷ [])
+acceptedText s (Where x) = line "place" (bin (current s) x ∷ position (current s) x ∷ [])
+acceptedText s (At y p) = line "bucket" (bucketAt (current s) y p ∷ [])
+acceptedText s Moves = moveLines s
+acceptedText s Unreadable = []
+
+-- a line: the session after it, and what is printed; a refused line changes nothing
+unfoldable pub after : Session → List ℕ → Session
+after s l = answer (commandRefusal s (read l)) (accepted s (read l)) s
+
+unfoldable pub printed : Session → List ℕ → List ℕ
+printed s l =
+    answer (commandRefusal s (read l)) (acceptedText s (read l)) (line "refused" (commandRefusal s (read l) ∷ []))
+
+-- what is printed for all lines of an input
+unfoldable pub printedAll : Session → List (List ℕ) → List ℕ
+printedAll s [] = []
+printedAll s (l ∷ ls) = printed s l ++ printedAll (after s l) ls
+
+unfoldable pub output : List ℕ → List ℕ
+output input = printedAll empty (linesOf input)

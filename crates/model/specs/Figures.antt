@@ -1,0 +1,96 @@
+-- Document 01, 'Figures to hold it to': those marked *, as one list, each a history of sizes with a question and its answer.
+-- Assumes nothing.
+use Prim.Native.Nat.{ℕ}
+use mathlib.Core.List.{List, [], _∷_, map}
+use lib.ListN.{take, replicate}
+use Rattle.model.specs.Limits.{maxBlocks, maxIntervals}
+use Rattle.model.specs.Table.{Shape, Arrays, arrays}
+use Rattle.model.specs.Calls.{initialReply, initialArrays, expandReply, expandArrays, placeReply}
+use Rattle.model.specs.declared.reply.TableReply.{TableReply}
+
+-- what a call that writes a table leaves: its reply and the arrays
+pub record State : Type 0 where
+  pub reply : TableReply
+  pub arrays : Arrays
+
+-- arrays of zeros to write to
+unfoldable pub blank : Arrays
+blank = arrays (replicate maxBlocks 0) (replicate maxIntervals 0) (replicate maxIntervals 0) (replicate maxIntervals 0)
+
+-- a fresh map, and a growth of the map that a call left
+unfoldable pub started : Shape → State
+started s = record { reply = initialReply s blank; arrays = initialArrays s blank }
+
+unfoldable pub grow : State → Shape → State
+grow st s =
+    record {
+      reply = expandReply (st .reply .header) (st .arrays) s blank;
+      arrays = expandArrays (st .reply .header) (st .arrays) s blank;
+    }
+
+unfoldable pub grows : State → List Shape → State
+grows st [] = st
+grows st (s ∷ rest) = grows (grow st s) rest
+
+-- a question and its answer: the refusal, moved count and number of intervals of the last reply; an array of the table; the
+-- bin and position of a bucket
+pub data Answer : Type 0 where
+  reply : ℕ → ℕ → ℕ → Answer
+  ends : List ℕ → Answer
+  blocks : List ℕ → Answer
+  adjustments : List ℕ → Answer
+  place : ℕ → ℕ → ℕ → Answer
+
+-- the same question, answered by the definitions
+unfoldable pub answered : State → Answer → Answer
+answered st (reply r m k) = reply (st .reply .refusal) (st .reply .moved) (st .reply .header .«interval_count»)
+answered st (ends xs) = ends (take (st .reply .header .«interval_count») (st .arrays .ends))
+answered st (blocks xs) = blocks (take (st .reply .header .«interval_count») (st .arrays .blocks))
+answered st (adjustments xs) = adjustments (take (st .reply .header .«interval_count») (st .arrays .adjustments))
+answered st (place x y p) =
+    place x
+    (placeReply (st .reply .header) (st .arrays) x .bin)
+    (placeReply (st .reply .header) (st .arrays) x .position)
+
+-- a figure: fresh sizes, the growths after it, and document 01's answers
+pub record Figure : Type 0 where
+  pub fresh : Shape
+  pub growths : List Shape
+  pub stated : List Answer
+
+unfoldable pub computed : Figure → List Answer
+computed f = map (answered (grows (started (f .fresh)) (f .growths))) (f .stated)
+
+abbrev pub size : ℕ → ℕ → Shape
+size b n = record { buckets = b; bins = n }
+
+abbrev pub figure : Shape → List Shape → List Answer → Figure
+figure s ss a = record { fresh = s; growths = ss; stated = a }
+
+unfoldable pub starred : List Figure
+starred =
+    figure (size 10 2) [] (place 7 1 3 ∷ [])
+    ∷ figure (size 10 2) (size 10 3 ∷ [])
+    (ends (7 ∷ 10 ∷ []) ∷ blocks (0 ∷ 1 ∷ []) ∷ adjustments (0 ∷ 7 ∷ []) ∷ reply 0 3 2 ∷ [])
+    ∷ figure (size 10 2) (size 10 3 ∷ size 14 4 ∷ [])
+    (ends (7 ∷ 10 ∷ 11 ∷ 14 ∷ [])
+    ∷ blocks (0 ∷ 1 ∷ 0 ∷ 2 ∷ [])
+    ∷ adjustments (0 ∷ 7 ∷ 3 ∷ 11 ∷ [])
+    ∷ reply 0 0 4
+    ∷ [])
+    ∷ figure (size 10 2) (size 10 3 ∷ size 14 4 ∷ size 14 5 ∷ [])
+    (ends (6 ∷ 7 ∷ 10 ∷ 11 ∷ 14 ∷ [])
+    ∷ blocks (0 ∷ 3 ∷ 1 ∷ 3 ∷ 2 ∷ [])
+    ∷ adjustments (0 ∷ 6 ∷ 7 ∷ 9 ∷ 11 ∷ [])
+    ∷ reply 0 2 5
+    ∷ [])
+    ∷ figure (size 10 2) (size 10 3 ∷ size 14 4 ∷ size 14 5 ∷ size 16 5 ∷ [])
+    (ends (6 ∷ 7 ∷ 10 ∷ 11 ∷ 14 ∷ 15 ∷ 16 ∷ [])
+    ∷ blocks (0 ∷ 3 ∷ 1 ∷ 3 ∷ 2 ∷ 0 ∷ 3 ∷ [])
+    ∷ adjustments (0 ∷ 6 ∷ 7 ∷ 9 ∷ 11 ∷ 8 ∷ 13 ∷ [])
+    ∷ [])
+    ∷ figure (size 4 2) (size 6 2 ∷ []) (ends (6 ∷ []) ∷ [])
+    ∷ figure (size 4 2) (size 5 4 ∷ []) (ends (3 ∷ 5 ∷ []) ∷ adjustments (0 ∷ 3 ∷ []) ∷ reply 0 1 2 ∷ [])
+    ∷ figure (size 1 1) [] (reply 0 0 1 ∷ [])
+    ∷ figure (size 1 2) [] (reply 2 0 0 ∷ [])
+    ∷ []

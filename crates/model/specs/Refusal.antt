@@ -1,0 +1,108 @@
+-- Document 01, 'Who brings a refusal about': the conditions. The order of a call's tests stands in Calls. Assumes nothing.
+use Prim.Native.Nat.{ℕ, _+_, _*_}
+use mathlib.Core.Bool.{Bool, not}
+use mathlib.Core.List.{List, [], _∷_}
+use lib.ListN.{length, getD}
+use lib.Dec.{leb, ltb, eqb}
+use Rattle.model.specs.Basics.{if_then_else_, _and_, _or_, all, before}
+use Rattle.model.specs.Limits.{maxBuckets, maxBins, maxBlocks, maxIntervals}
+use Rattle.model.specs.Table.{Shape, Table, bins, shape, Arrays, table}
+use Rattle.model.specs.Place.{held, others, binSize}
+use Rattle.model.specs.Due.{dueOfBlock}
+use Rattle.model.specs.declared.table.Header.{Header}
+
+-- a refusal's number and the test that brings it about
+abbrev pub Test : Type 0
+Test = ℕ × Bool
+
+-- the number of the first test that holds, or 0: no refusal
+unfoldable pub first : List Test → ℕ
+first [] = 0
+first (t ∷ rest) = if t .1 then t .0 else first rest
+
+-- x is 0 or above its limit
+unfoldable pub outside : ℕ → ℕ → Bool
+outside limit x = eqb x 0 or ltb limit x
+
+-- the first n entries rise strictly, and the first of them is not 0
+unfoldable pub rises : List ℕ → ℕ → Bool
+rises xs n = all (λ i. ltb (before xs i) (getD xs i 0)) n
+
+-- B, G or k outside its limits
+unfoldable pub headerOutside : Header → Bool
+headerOutside h = outside maxBuckets (h .buckets) or outside maxBlocks (h .«block_count») or outside maxIntervals (h .«interval_count»)
+
+-- a lent array shorter than its count
+unfoldable pub arraysShort : Header → Arrays → Bool
+arraysShort h a =
+    ltb (length (a .tops)) (h .«block_count»)
+    or ltb (length (a .ends)) (h .«interval_count»)
+    or ltb (length (a .blocks)) (h .«interval_count»)
+    or ltb (length (a .adjustments)) (h .«interval_count»)
+
+-- 12: tops that don't rise strictly, a first top of 0, a last top above its limit or above B
+unfoldable pub topsWrong : Header → List ℕ → Bool
+topsWrong h tops =
+    not (rises tops (h .«block_count»))
+    or ltb maxBins (before tops (h .«block_count»))
+    or ltb (h .buckets) (before tops (h .«block_count»))
+
+-- 13: ends that don't rise strictly, a first end of 0, or a last end other than B
+unfoldable pub endsWrong : Header → List ℕ → Bool
+endsWrong h ends = not (rises ends (h .«interval_count»)) or not (eqb (before ends (h .«interval_count»)) (h .buckets))
+
+-- 14: an interval's block not below G
+unfoldable pub blocksWrong : Header → List ℕ → Bool
+blocksWrong h blocks = not (all (λ i. ltb (getD blocks i 0) (h .«block_count»)) (h .«interval_count»))
+
+-- 15: a block whose intervals hold another number than its due
+unfoldable pub holdingsWrong : Header → Arrays → Bool
+holdingsWrong h a =
+    not (all (λ j. eqb (held (table h a) j (h .buckets)) (dueOfBlock (shape (table h a)) (a .tops) j)) (h .«block_count»))
+
+-- the adjustment of interval i: the number of buckets before its start that belong to other blocks
+unfoldable pub adjustmentOf : Header → Arrays → ℕ → ℕ
+adjustmentOf h a i = others (table h a) (getD (a .blocks) i 0) (before (a .ends) i)
+
+-- 16: a wrong adjustment
+unfoldable pub adjustmentsWrong : Header → Arrays → Bool
+adjustmentsWrong h a = not (all (λ i. eqb (getD (a .adjustments) i 0) (adjustmentOf h a i)) (h .«interval_count»))
+
+-- 1: a size is 0 or above its limit
+unfoldable pub sizeOutside : Shape → Bool
+sizeOutside s = outside maxBuckets (s .buckets) or outside maxBins (s .bins)
+
+-- 2: n > B in the map asked for
+unfoldable pub fewBuckets : Shape → Bool
+fewBuckets s = ltb (s .buckets) (s .bins)
+
+-- 3: a size is below the old one
+unfoldable pub shrinks : Table → Shape → Bool
+shrinks t s = ltb (s .buckets) (t .buckets) or ltb (s .bins) (bins t)
+
+-- 4: both sizes equal the old ones
+unfoldable pub unchanged : Table → Shape → Bool
+unchanged t s = eqb (s .buckets) (t .buckets) and eqb (s .bins) (bins t)
+
+-- 5: n′ > n with all blocks present
+unfoldable pub blocksFull : Table → Shape → Bool
+blocksFull t s = ltb (bins t) (s .bins) and eqb (length (t .tops)) maxBlocks
+
+-- 6: bucket number not below B
+unfoldable pub bucketPast : Table → ℕ → Bool
+bucketPast t x = leb (t .buckets) x
+
+-- 7: bin not below n, or position not below that bin's size
+unfoldable pub binPast : Table → ℕ → Bool
+binPast t y = leb (bins t) y
+
+unfoldable pub placePast : Table → ℕ → ℕ → Bool
+placePast t y p = binPast t y or leb (binSize t y) p
+
+-- 21: room for a new table below 65 tops or below 2,081 of any interval array
+unfoldable pub roomShort : Arrays → Bool
+roomShort a =
+    ltb (length (a .tops)) maxBlocks
+    or ltb (length (a .ends)) maxIntervals
+    or ltb (length (a .blocks)) maxIntervals
+    or ltb (length (a .adjustments)) maxIntervals
