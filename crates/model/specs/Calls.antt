@@ -114,61 +114,71 @@ expandReply h a s out =
 unfoldable pub expandArrays : Header → Arrays → Shape → Arrays → Arrays
 expandArrays h a s out = arraysAfter (expandRefusal h a s out) (expanded (table h a) s) out
 
--- relocations (move list), from order number q on, into a buffer
+-- relocations (move list), from order number q on, into a buffer; `rs` are all rows
+
+unfoldable pub relocationsAnswer : ℕ → List (List ℕ) → ℕ → List ℕ → RelocationsReply
+relocationsAnswer r rs q buffer =
+    answer r
+    (record { refusal = 0; written = length (page q (length buffer) rs); total = length rs })
+    (record { refusal = r; written = 0; total = 0 })
+
+unfoldable pub bufferAfter : ℕ → List (List ℕ) → ℕ → List ℕ → List ℕ
+bufferAfter r rs q buffer = answer r (over (joined (page q (length buffer) rs)) buffer) buffer
+
+-- 9: q above the total
+unfoldable pub orderTests : List (List ℕ) → ℕ → List Test
+orderTests rs q = (9, ltb (length rs) q) ∷ []
 
 unfoldable pub rowsOf : Header → Arrays → Shape → List (List ℕ)
 rowsOf h a s = rows (table h a) (expanded (table h a) s)
 
 unfoldable pub relocationsRefusal : Header → Arrays → Shape → ℕ → ℕ
-relocationsRefusal h a s q =
-    first (tableTests h a ++ growthTests (table h a) s ++ ((9, ltb (length (rowsOf h a s)) q) ∷ []))
+relocationsRefusal h a s q = first (tableTests h a ++ (growthTests (table h a) s ++ orderTests (rowsOf h a s) q))
 
 unfoldable pub relocationsReply : Header → Arrays → Shape → ℕ → List ℕ → RelocationsReply
-relocationsReply h a s q buffer =
-    answer (relocationsRefusal h a s q)
-    (record {
-      refusal = 0;
-      written = length (page q (length buffer) (rowsOf h a s));
-      total = length (rowsOf h a s);
-    })
-    (record { refusal = relocationsRefusal h a s q; written = 0; total = 0 })
+relocationsReply h a s q buffer = relocationsAnswer (relocationsRefusal h a s q) (rowsOf h a s) q buffer
 
 unfoldable pub relocationsRows : Header → Arrays → Shape → ℕ → List ℕ → List ℕ
-relocationsRows h a s q buffer =
-    answer (relocationsRefusal h a s q) (over (joined (page q (length buffer) (rowsOf h a s))) buffer) buffer
+relocationsRows h a s q buffer = bufferAfter (relocationsRefusal h a s q) (rowsOf h a s) q buffer
+
+-- A CALL THAT READS A SOUND TABLE t, with refusal r
+
+unfoldable pub placeAnswer : ℕ → Table → ℕ → PlaceReply
+placeAnswer r t x =
+    answer r
+    (record { refusal = 0; bin = bin t x; position = position t x })
+    (record { refusal = r; bin = 0; position = 0 })
+
+unfoldable pub findAnswer : ℕ → Table → ℕ → ℕ → FindReply
+findAnswer r t y p = answer r (record { refusal = 0; bucket = bucketAt t y p }) (record { refusal = r; bucket = 0 })
+
+unfoldable pub binSizeAnswer : ℕ → Table → ℕ → BinSizeReply
+binSizeAnswer r t y = answer r (record { refusal = 0; buckets = binSize t y }) (record { refusal = r; buckets = 0 })
+
+-- their tests
+unfoldable pub placeTests : Table → ℕ → List Test
+placeTests t x = (6, bucketPast t x) ∷ []
+
+unfoldable pub findTests : Table → ℕ → ℕ → List Test
+findTests t y p = (7, placePast t y p) ∷ []
+
+unfoldable pub binSizeTests : Table → ℕ → List Test
+binSizeTests t y = (7, binPast t y) ∷ []
 
 -- place
 
-unfoldable pub placeRefusal : Header → Arrays → ℕ → ℕ
-placeRefusal h a x = first (tableTests h a ++ ((6, bucketPast (table h a) x) ∷ []))
-
 unfoldable pub placeReply : Header → Arrays → ℕ → PlaceReply
-placeReply h a x =
-    answer (placeRefusal h a x)
-    (record { refusal = 0; bin = bin (table h a) x; position = position (table h a) x })
-    (record { refusal = placeRefusal h a x; bin = 0; position = 0 })
+placeReply h a x = placeAnswer (first (tableTests h a ++ placeTests (table h a) x)) (table h a) x
 
 -- find
 
-unfoldable pub findRefusal : Header → Arrays → ℕ → ℕ → ℕ
-findRefusal h a y p = first (tableTests h a ++ ((7, placePast (table h a) y p) ∷ []))
-
 unfoldable pub findReply : Header → Arrays → ℕ → ℕ → FindReply
-findReply h a y p =
-    answer (findRefusal h a y p)
-    (record { refusal = 0; bucket = bucketAt (table h a) y p })
-    (record { refusal = findRefusal h a y p; bucket = 0 })
+findReply h a y p = findAnswer (first (tableTests h a ++ findTests (table h a) y p)) (table h a) y p
 
 -- bin_size (drawer count)
 
-unfoldable pub binSizeRefusal : Header → Arrays → ℕ → ℕ
-binSizeRefusal h a y = first (tableTests h a ++ ((7, binPast (table h a) y) ∷ []))
-
 unfoldable pub binSizeReply : Header → Arrays → ℕ → BinSizeReply
-binSizeReply h a y =
-    answer (binSizeRefusal h a y)
-    (record { refusal = 0; buckets = binSize (table h a) y })
-    (record { refusal = binSizeRefusal h a y; buckets = 0 })
+binSizeReply h a y = binSizeAnswer (first (tableTests h a ++ binSizeTests (table h a) y)) (table h a) y
 
 -- room
 
@@ -183,9 +193,11 @@ roomReply m =
 
 -- save, into a buffer of bytes
 
+unfoldable pub saveTests : Header → List ℕ → List Test
+saveTests h buffer = (21, ltb (length buffer) (savedLength (h .«block_count») (h .«interval_count»))) ∷ []
+
 unfoldable pub saveRefusal : Header → Arrays → List ℕ → ℕ
-saveRefusal h a buffer =
-    first (tableTests h a ++ ((21, ltb (length buffer) (savedLength (h .«block_count») (h .«interval_count»))) ∷ []))
+saveRefusal h a buffer = first (tableTests h a ++ saveTests h buffer)
 
 unfoldable pub saveReply : Header → Arrays → List ℕ → SaveReply
 saveReply h a buffer =

@@ -9,11 +9,11 @@ use lib.Dec.{leb, ltb, eqb}
 use Rattle.model.specs.Basics.{if_then_else_, _and_, joined}
 use Rattle.model.specs.Table.{Shape, Table}
 use Rattle.model.specs.Place.{bin, position, bucketAt}
-use Rattle.model.specs.Refusal.{Test, first, bucketPast, placePast}
+use Rattle.model.specs.Refusal.{Test, first}
 use Rattle.model.specs.Initial.{initial}
 use Rattle.model.specs.Expansion.{expanded, moved}
 use Rattle.model.specs.Relocations.{rows}
-use Rattle.model.specs.Calls.{answer, sizeTests, growthTests, intervalsFull}
+use Rattle.model.specs.Calls.{answer, sizeTests, growthTests, intervalsFull, placeTests, findTests}
 use Rattle.model.specs.declared.command.Command.{Command}
 use Rattle.model.specs.declared.command.Command.the-variants.{Fresh, Grow, Where, At, Moves, Unreadable}
 
@@ -134,8 +134,8 @@ sizes b n = record { buckets = b; bins = n }
 unfoldable pub commandTests : Table → Command → List Test
 commandTests t (Fresh b n) = sizeTests (sizes b n)
 commandTests t (Grow b n) = growthTests t (sizes b n) ++ ((8, intervalsFull t (sizes b n)) ∷ [])
-commandTests t (Where x) = (6, bucketPast t x) ∷ []
-commandTests t (At y p) = (7, placePast t y p) ∷ []
+commandTests t (Where x) = placeTests t x
+commandTests t (At y p) = findTests t y p
 commandTests t Moves = []
 commandTests t Unreadable = []
 

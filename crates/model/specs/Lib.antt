@@ -5,6 +5,7 @@ pub mod Table
 pub mod Place
 pub mod Due
 pub mod Refusal
+pub mod Sound
 pub mod Initial
 pub mod Expansion
 pub mod Relocations
@@ -13,5 +14,8 @@ pub mod Saved
 pub mod Calls
 pub mod Console
 pub mod Balance
+pub mod History
 pub mod Figures
 pub mod Claims
+pub mod TableClaims
+pub mod ExpansionClaims

@@ -1,5 +1,7 @@
 // The placement map of document 01: the types that its calls share. Its definitions are in specs/.
 ghost use Rattle.model.specs.Claims.{Claims};
+ghost use Rattle.model.specs.TableClaims.{TableClaims};
+ghost use Rattle.model.specs.ExpansionClaims.{ExpansionClaims};
 
 pub mod command;
 pub mod plan;
@@ -10,4 +12,14 @@ pub mod table;
 // What is proved of the definitions alone (specs/Claims.antt).
 pub fn claims()
     ensures { λ _. ⌜ Claims ⌝ }
+{}
+
+// What is proved of lent tables and files (specs/TableClaims.antt).
+pub fn table_claims()
+    ensures { λ _. ⌜ TableClaims ⌝ }
+{}
+
+// What is proved of growth, and demand 3 (specs/ExpansionClaims.antt).
+pub fn expansion_claims()
+    ensures { λ _. ⌜ ExpansionClaims ⌝ }
 {}

@@ -1,0 +1,375 @@
+// Lent tables, right and wrong: rules 11 to 16, each at its edge on both sides. The refusal is that of placing bucket 0.
+use crate::print::line;
+use model::table::Header;
+ghost use Prim.Native.Nat.{_<_};
+
+// A case is 11 numbers: B, G, k; two tops, two ends, two blocks, two adjustments.
+const CASES: [u32; 275] = [
+    // right
+    10,
+    2,
+    2,
+    2,
+    3,
+    7,
+    10,
+    0,
+    1,
+    0,
+    7,
+    // 11: no bucket
+    0,
+    2,
+    2,
+    2,
+    3,
+    7,
+    10,
+    0,
+    1,
+    0,
+    7,
+    // no block
+    10,
+    0,
+    2,
+    2,
+    3,
+    7,
+    10,
+    0,
+    1,
+    0,
+    7,
+    // no interval
+    10,
+    2,
+    0,
+    2,
+    3,
+    7,
+    10,
+    0,
+    1,
+    0,
+    7,
+    // one block more than tops lent
+    10,
+    3,
+    2,
+    2,
+    3,
+    7,
+    10,
+    0,
+    1,
+    0,
+    7,
+    // one interval more than entries lent
+    10,
+    2,
+    3,
+    2,
+    3,
+    7,
+    10,
+    0,
+    1,
+    0,
+    7,
+    // most buckets
+    1_000_000_000,
+    1,
+    1,
+    1,
+    0,
+    1_000_000_000,
+    0,
+    0,
+    0,
+    0,
+    0,
+    // one bucket too many
+    1_000_000_001,
+    1,
+    1,
+    1,
+    0,
+    1_000_000_001,
+    0,
+    0,
+    0,
+    0,
+    0,
+    // 12: equal tops
+    10,
+    2,
+    2,
+    3,
+    3,
+    7,
+    10,
+    0,
+    1,
+    0,
+    7,
+    // first top 0
+    10,
+    2,
+    2,
+    0,
+    3,
+    7,
+    10,
+    0,
+    1,
+    0,
+    7,
+    // most bins
+    65_535,
+    1,
+    1,
+    65_535,
+    0,
+    65_535,
+    0,
+    0,
+    0,
+    0,
+    0,
+    // one bin too many
+    65_536,
+    1,
+    1,
+    65_536,
+    0,
+    65_536,
+    0,
+    0,
+    0,
+    0,
+    0,
+    // as many bins as buckets
+    3,
+    1,
+    1,
+    3,
+    0,
+    3,
+    0,
+    0,
+    0,
+    0,
+    0,
+    // more bins than buckets
+    3,
+    1,
+    1,
+    4,
+    0,
+    3,
+    0,
+    0,
+    0,
+    0,
+    0,
+    // 13: equal ends
+    10,
+    2,
+    2,
+    2,
+    3,
+    10,
+    10,
+    0,
+    1,
+    0,
+    7,
+    // first end 0
+    10,
+    2,
+    2,
+    2,
+    3,
+    0,
+    10,
+    0,
+    1,
+    0,
+    7,
+    // last end below B
+    10,
+    2,
+    2,
+    2,
+    3,
+    7,
+    9,
+    0,
+    1,
+    0,
+    7,
+    // last end above B
+    10,
+    2,
+    2,
+    2,
+    3,
+    7,
+    11,
+    0,
+    1,
+    0,
+    7,
+    // 14: block 2 of 2
+    10,
+    2,
+    2,
+    2,
+    3,
+    7,
+    10,
+    0,
+    2,
+    0,
+    7,
+    // 13 and 14
+    10,
+    2,
+    2,
+    2,
+    3,
+    7,
+    9,
+    0,
+    2,
+    0,
+    7,
+    // 15: first block one short
+    10,
+    2,
+    2,
+    2,
+    3,
+    6,
+    10,
+    0,
+    1,
+    0,
+    6,
+    // last block empty
+    10,
+    2,
+    2,
+    2,
+    3,
+    7,
+    10,
+    0,
+    0,
+    0,
+    0,
+    // 16: one low
+    10,
+    2,
+    2,
+    2,
+    3,
+    7,
+    10,
+    0,
+    1,
+    0,
+    6,
+    // one high
+    10,
+    2,
+    2,
+    2,
+    3,
+    7,
+    10,
+    0,
+    1,
+    0,
+    8,
+    // first not 0
+    10,
+    2,
+    2,
+    2,
+    3,
+    7,
+    10,
+    0,
+    1,
+    1,
+    7,
+];
+
+// its place in the list of cases, from 0; refusal, bin, position
+pub fn tables() {
+    let mut i: usize = 0;
+    while i < 25 {
+        tried(i as u32, 11 * i);
+        i += 1;
+    }
+    short_ends();
+    short_blocks();
+    short_adjustments();
+}
+
+fn case(at: usize) -> u32
+    requires { ⌜ at < 275 ⌝ }
+{
+    CASES[at]
+}
+
+fn tried(i: u32, at: usize)
+    requires { ⌜ at < 265 ⌝ }
+{
+    let h = Header {
+        buckets: case(at),
+        block_count: case(at + 1),
+        interval_count: case(at + 2),
+    };
+    let tops = [case(at + 3), case(at + 4)];
+    let ends = [case(at + 5), case(at + 6)];
+    let blocks = [case(at + 7), case(at + 8)];
+    let adjustments = [case(at + 9), case(at + 10)];
+    let reply = irr::place(h, &tops, &ends, &blocks, &adjustments, 0);
+    line(b"table", &[i, reply.refusal, reply.bin, reply.position]);
+}
+
+// One array an entry short.
+fn short_ends() {
+    let reply = irr::place(right(), &[2, 3], &[7], &[0, 1], &[0, 7], 0);
+    line(
+        b"one end too few",
+        &[reply.refusal, reply.bin, reply.position],
+    );
+}
+
+fn short_blocks() {
+    let reply = irr::place(right(), &[2, 3], &[7, 10], &[0], &[0, 7], 0);
+    line(
+        b"one block too few",
+        &[reply.refusal, reply.bin, reply.position],
+    );
+}
+
+fn short_adjustments() {
+    let reply = irr::place(right(), &[2, 3], &[7, 10], &[0, 1], &[0], 0);
+    line(
+        b"one adjustment too few",
+        &[reply.refusal, reply.bin, reply.position],
+    );
+}
+
+fn right() -> Header {
+    Header {
+        buckets: 10,
+        block_count: 2,
+        interval_count: 2,
+    }
+}

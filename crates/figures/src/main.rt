@@ -1,0 +1,21 @@
+// Works through document 01's figures without a star, the slips of the rack fitter, and each refusal at its edge on both
+// sides, through the public calls, and prints what it saw: a line a call, its arguments and then its whole reply.
+mod fresh;
+mod keep;
+mod lent;
+mod long;
+mod print;
+mod read;
+
+fn main() {
+    fresh::sizes();
+    fresh::rooms();
+    fresh::expansions();
+    read::places();
+    read::finds();
+    read::bin_sizes();
+    lent::tables();
+    long::tables();
+    keep::saves();
+    keep::loads();
+}

@@ -1,0 +1,4 @@
+pub mod Stores
+pub mod Walk
+pub mod Shares
+pub mod Passed

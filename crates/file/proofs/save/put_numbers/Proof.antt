@@ -1,0 +1,85 @@
+-- `file::save::put_numbers` meets its contract. The loop's invariant: the bytes of the first i numbers are written.
+-- Assumes nothing.
+use Prim.Native.Nat.{_+_, _-_, _*_, _≤_, _<_}
+use mathlib.Core.Path.{_≡_, _∙_, ap}
+use native.Mathlib.Nat.{add-zero}
+use native.Mathlib.Omega.{arith}
+use lib.ListN.{length, take}
+use Rattle.model.specs.Basics.{joined}
+use Rattle.model.specs.Saved.{bytesOf}
+use Rattle.model.proofs.Bytes.{bytesOfAll, bytes-next}
+use Rattle.file.specs.Stored.{overAt}
+use Rattle.file.proofs.Stores.{Filled, filled-none, filled-length, filled-more}
+use Rattle.file.proofs.save.put_numbers.Statement.{statement}
+use Rattle.file.proofs.save.put_numbers.Tie as tie
+
+abbrev Inv-loop : tie.InvT-loop
+Inv-loop xs count out₀ at i₀ out i =
+    (i ≤ count) × Filled at (at + 4 * i) (bytesOfAll (take i xs)) out₀ out
+
+abbrev μ-loop : tie.MeasureT-loop
+μ-loop xs count out₀ at i₀ out i = count - i
+
+loop-holds : tie.Need-loop-holds Inv-loop μ-loop
+unfolding joined
+loop-holds c = (omega arith, rw add-zero (filled-none _ _ (omega arith)))
+
+mul-put-number : tie.Need-mul-put-number Inv-loop μ-loop
+mul-put-number c = omega arith
+
+add-put-number : tie.Need-add-put-number Inv-loop μ-loop
+add-put-number c = omega arith
+
+mul-put-number-2 : tie.Need-mul-put-number-2 Inv-loop μ-loop
+mul-put-number-2 c = omega arith
+
+shared-slice-read-put-number : tie.Need-shared-slice-read-put-number Inv-loop μ-loop
+shared-slice-read-put-number c = omega arith
+
+put-number-requires : tie.Need-put-number-requires Inv-loop μ-loop
+put-number-requires c κs = omega (arith, filled-length (c .before .before .before .loop .inv .1))
+
+add-i : tie.Need-add-i Inv-loop μ-loop
+add-i c = omega arith
+
+loop-less : tie.Need-loop-less Inv-loop μ-loop
+loop-less c = omega arith
+
+loop-again : tie.Need-loop-again Inv-loop μ-loop
+unfolding bytesOf
+loop-again c =
+    let start = c .before .before .before .before .before .before .before .before .before in
+    let turn = c .before .before .before .before .before .before .loop in
+    let inside : turn .i < length (start .args .xs .now) = omega arith in (
+      omega arith,
+      rw (bytes-next (start .args .xs .now) (turn .i))
+          (filled-more (turn .inv .1) _ _ _ (c .before .before .put-number .ensures) (omega arith) (omega arith)),
+    )
+
+same-length : tie.Need-same-length Inv-loop μ-loop
+same-length c = filled-length (c .before .loop .inv .1)
+
+returns : tie.Need-returns Inv-loop μ-loop
+returns c =
+    let start = c .before .before .before .before in
+    let all : c .before .loop .i ≡ start .args .count = omega arith in
+    c .before .loop .inv .1 .holds
+    ∙ ap (λ i. overAt (start .args .at) (bytesOfAll (take i (start .args .xs .now))) (start .args .out .now)) all
+
+pub put-numbers-spec : {M : Type 1} → statement M
+put-numbers-spec =
+    tie.close
+    (tie.spec
+    Inv-loop
+    μ-loop
+    loop-holds
+    mul-put-number
+    add-put-number
+    mul-put-number-2
+    shared-slice-read-put-number
+    put-number-requires
+    add-i
+    loop-less
+    loop-again
+    same-length
+    returns)

@@ -1,0 +1,4 @@
+// The saved form: a table to bytes and back.
+pub mod load;
+pub mod number;
+pub mod save;

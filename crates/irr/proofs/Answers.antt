@@ -1,0 +1,221 @@
+-- Laws of the calls' replies: what a refusal by the table's tests, or by the tests after them, makes of each. Assumes nothing.
+use Prim.Native.Nat.{ℕ, _+_, _*_, _≤_, _<_}
+use mathlib.Core.Path.{_≡_, sym, _∙_, ap}
+use mathlib.Core.Bool.{true, false}
+use mathlib.Core.List.{List, [], _++_}
+use native.Mathlib.Nat.{zero-add}
+use native.Mathlib.Omega.{arith}
+use lib.ListN.{length, getD}
+use borrow.Author.Tests.{lt-ltb, le-ltb, ne-eqb, eqb-true, not-false}
+use Rattle.model.specs.Basics.{if_then_else_, from}
+use Rattle.model.specs.Table.{Shape, Arrays, arrays, table, header, over, written}
+use Rattle.model.specs.Refusal.{Test, first, roomShort}
+use Rattle.model.specs.Sound.{Sound}
+use Rattle.model.specs.Initial.{initial}
+use Rattle.model.specs.Room.{room}
+use Rattle.model.specs.Saved.{saved, savedLength, loadedHeader, loadedArrays, fileWrong}
+use Rattle.model.specs.Calls.{
+  answer,
+  noHeader,
+  tableTests,
+  sizeTests,
+  tableReply,
+  arraysAfter,
+  initialRefusal,
+  initialReply,
+  initialArrays,
+  roomRefusal,
+  roomReply,
+  saveTests,
+  saveRefusal,
+  saveReply,
+  saveBytes,
+  loadTests,
+  loadRefusal,
+  loadReply,
+  loadArrays,
+  placeAnswer,
+  placeTests,
+  placeReply,
+  findAnswer,
+  findTests,
+  findReply,
+  binSizeAnswer,
+  binSizeTests,
+  binSizeReply,
+}
+use Rattle.model.specs.declared.table.Header.{Header}
+use Rattle.model.specs.declared.reply.TableReply.{TableReply}
+use Rattle.model.specs.declared.reply.RoomReply.{RoomReply}
+use Rattle.model.specs.declared.reply.SaveReply.{SaveReply}
+use Rattle.model.specs.declared.reply.LoadReply.{LoadReply}
+use Rattle.model.specs.declared.reply.PlaceReply.{PlaceReply}
+use Rattle.model.specs.declared.reply.FindReply.{FindReply}
+use Rattle.model.specs.declared.reply.BinSizeReply.{BinSizeReply}
+use Rattle.model.proofs.Refusals.{or-right, first-clear, first-here, first-skip, first-found, first-after, accepted}
+use Rattle.model.proofs.Tables.{getD-from}
+use Rattle.model.proofs.Bytes.{saved-same}
+use Rattle.model.proofs.Soundness.{sound-iff, table-numbered}
+
+-- a refused call gives its refusal
+pub refused : {A : Type 0} (r : ℕ) (a b : A) → (r ≡ 0 → ⊥) → b ≡ answer r a b
+unfolding answer if_then_else_
+refused r a b n = rw (ne-eqb r 0 n)
+
+module _ (h : Header) (a : Arrays) (r : ℕ) (e : r ≡ first (tableTests h a)) where
+  -- a table that the check passes is sound
+  pub checked : r ≡ 0 → Sound h a
+  checked z = sound-iff h a .0 (sym e ∙ z)
+
+  -- a refusal by the table's tests stands
+  pub stands : (us : List Test) → (r ≡ 0 → ⊥) → r ≡ first (tableTests h a ++ us)
+  stands us n = e ∙ sym (first-found (tableTests h a) us (λ z. n (e ∙ z)))
+
+  -- otherwise the tests after them answer
+  pub passed : (us : List Test) → r ≡ 0 → first us ≡ first (tableTests h a ++ us)
+  passed us z = sym (first-after (tableTests h a) us (table-numbered h a) (sym e ∙ z))
+
+  pub place-refused : (x : ℕ) → (r ≡ 0 → ⊥) → record { refusal = r; bin = 0; position = 0 } ≡ placeReply h a x
+  unfolding placeReply placeAnswer
+  place-refused x n = rw (← stands (placeTests (table h a) x) n) (refused r _ _ n)
+
+  pub place-accepted : (x : ℕ) → r ≡ 0 → placeAnswer (first (placeTests (table h a) x)) (table h a) x ≡ placeReply h a x
+  unfolding placeReply
+  place-accepted x z = ap (λ q. placeAnswer q (table h a) x) (passed (placeTests (table h a) x) z)
+
+  pub find-refused : (y p : ℕ) → (r ≡ 0 → ⊥) → record { refusal = r; bucket = 0 } ≡ findReply h a y p
+  unfolding findReply findAnswer
+  find-refused y p n = rw (← stands (findTests (table h a) y p) n) (refused r _ _ n)
+
+  pub find-accepted
+      : (y p : ℕ) → r ≡ 0 → findAnswer (first (findTests (table h a) y p)) (table h a) y p ≡ findReply h a y p
+  unfolding findReply
+  find-accepted y p z = ap (λ q. findAnswer q (table h a) y p) (passed (findTests (table h a) y p) z)
+
+  pub size-refused : (y : ℕ) → (r ≡ 0 → ⊥) → record { refusal = r; buckets = 0 } ≡ binSizeReply h a y
+  unfolding binSizeReply binSizeAnswer
+  size-refused y n = rw (← stands (binSizeTests (table h a) y) n) (refused r _ _ n)
+
+  pub size-accepted : (y : ℕ) → r ≡ 0 → binSizeAnswer (first (binSizeTests (table h a) y)) (table h a) y ≡ binSizeReply h a y
+  unfolding binSizeReply
+  size-accepted y z = ap (λ q. binSizeAnswer q (table h a) y) (passed (binSizeTests (table h a) y) z)
+
+-- A CALL THAT WRITES A TABLE
+
+module _ (s : Shape) (out : Arrays) where
+  -- an initial call is refused by the room lent, or by the sizes asked for
+  pub initial-short : roomShort out ≡ true → 21 ≡ initialRefusal s out
+  unfolding initialRefusal
+  initial-short h = sym (first-here (21, roomShort out) (sizeTests s) h)
+
+  pub initial-sizes : (r : ℕ) → roomShort out ≡ false → r ≡ first (sizeTests s) → r ≡ initialRefusal s out
+  unfolding initialRefusal
+  initial-sizes r h e = e ∙ sym (first-skip (21, roomShort out) (sizeTests s) h)
+
+  pub initial-refused
+      : (r : ℕ) → r ≡ initialRefusal s out → (r ≡ 0 → ⊥)
+      → (record { refusal = r; moved = 0; header = noHeader } ≡ initialReply s out) × (out ≡ initialArrays s out)
+  unfolding initialReply tableReply initialArrays arraysAfter
+  initial-refused r e n = (rw (← e) (refused r _ _ n), rw (← e) (refused r _ _ n))
+
+  pub initial-accepted
+      : (r : ℕ) → r ≡ initialRefusal s out → r ≡ 0
+      → (record { refusal = 0; moved = 0; header = record { buckets = s .buckets; «block_count» = 1; «interval_count» = 1 } }
+      ≡ initialReply s out)
+      × (written (initial s) out ≡ initialArrays s out)
+  unfolding initialReply tableReply initialArrays arraysAfter header initial
+  initial-accepted r e z =
+      (sym (accepted (initialRefusal s out) _ _ (sym e ∙ z)), sym (accepted (initialRefusal s out) _ _ (sym e ∙ z)))
+
+-- ROOM
+
+-- a constant table that the rule computes, entry by entry, has the rule at every entry
+pub room-rule : (table : List ℕ) → table ≡ from room 0 65 → (m : ℕ) → m ≤ 64 → getD table m 0 ≡ room m
+room-rule table e m l = ap (λ xs. getD xs m 0) e ∙ getD-from room 0 65 m 0 (omega arith) ∙ ap room (zero-add m)
+
+pub room-refused : (m : ℕ) → 64 < m → record { refusal = 9; intervals = 0 } ≡ roomReply m
+unfolding roomReply roomRefusal answer first if_then_else_
+room-refused m l = rw (lt-ltb 64 m l)
+
+pub room-accepted : (m v : ℕ) → m ≤ 64 → v ≡ room m → record { refusal = 0; intervals = v } ≡ roomReply m
+unfolding roomReply roomRefusal answer first if_then_else_
+room-accepted m v l e = rw (le-ltb 64 m l, e)
+
+-- SAVING
+
+module _ (h : Header) (a : Arrays) (r : ℕ) (e : r ≡ first (tableTests h a)) (buffer : List ℕ) where
+  -- refused by the table's tests
+  pub save-refused
+      : (r ≡ 0 → ⊥) → (record { refusal = r; length = 0 } ≡ saveReply h a buffer) × (buffer ≡ saveBytes h a buffer)
+  unfolding saveReply saveBytes saveRefusal
+  save-refused n =
+      (rw (← stands h a r e _ n) (refused r _ _ n), rw (← stands h a r e _ n) (refused r _ _ n))
+
+  save-next : r ≡ 0 → saveRefusal h a buffer ≡ first (saveTests h buffer)
+  unfolding saveRefusal saveTests
+  save-next z = sym (passed h a r e _ z)
+
+  -- refused by the buffer's length
+  pub save-short
+      : r ≡ 0 → length buffer < savedLength (h .«block_count») (h .«interval_count»)
+      → (record { refusal = 21; length = 0 } ≡ saveReply h a buffer) × (buffer ≡ saveBytes h a buffer)
+  unfolding saveReply saveBytes saveTests answer if_then_else_ first
+  save-short z l = (
+    rw (save-next z, lt-ltb (length buffer) (savedLength (h .«block_count») (h .«interval_count»)) l),
+    rw (save-next z, lt-ltb (length buffer) (savedLength (h .«block_count») (h .«interval_count»)) l),
+  )
+
+  -- accepted
+  pub save-accepted
+      : (n : ℕ) → r ≡ 0 → n ≡ savedLength (h .«block_count») (h .«interval_count») → n ≤ length buffer
+      → (record { refusal = 0; length = n } ≡ saveReply h a buffer) × (over (saved (table h a)) buffer ≡ saveBytes h a buffer)
+  unfolding saveReply saveBytes saveTests answer if_then_else_ first
+  save-accepted n z d l =
+      let long : savedLength (h .«block_count») (h .«interval_count») ≤ length buffer = omega arith in (
+        rw (save-next z, le-ltb (length buffer) (savedLength (h .«block_count») (h .«interval_count»)) long, d),
+        rw (save-next z, le-ltb (length buffer) (savedLength (h .«block_count») (h .«interval_count»)) long),
+      )
+
+-- LOADING
+
+module _ (f : List ℕ) (out : Arrays) where
+  pub load-short : roomShort out ≡ true → 21 ≡ loadRefusal f out
+  unfolding loadRefusal
+  load-short w = sym (first-here (21, roomShort out) (loadTests f) w)
+
+  pub load-tests : (r : ℕ) → roomShort out ≡ false → r ≡ first (loadTests f) → r ≡ loadRefusal f out
+  unfolding loadRefusal
+  load-tests r w e = e ∙ sym (first-skip (21, roomShort out) (loadTests f) w)
+
+  pub load-refused
+      : (r : ℕ) → r ≡ loadRefusal f out → (r ≡ 0 → ⊥)
+      → (record { refusal = r; header = noHeader } ≡ loadReply f out) × (out ≡ loadArrays f out)
+  unfolding loadReply loadArrays arraysAfter
+  load-refused r e n = (rw (← e) (refused r _ _ n), rw (← e) (refused r _ _ n))
+
+  pub load-accepted
+      : (r : ℕ) (h : Header) → r ≡ loadRefusal f out → r ≡ 0 → h ≡ loadedHeader f
+      → (record { refusal = 0; header = h } ≡ loadReply f out)
+      × (written (table (loadedHeader f) (loadedArrays f)) out ≡ loadArrays f out)
+  unfolding loadReply loadArrays arraysAfter
+  load-accepted r h e z d = (
+    ap (λ h. record { refusal = 0; header = h }) d ∙ sym (accepted (loadRefusal f out) _ _ (sym e ∙ z)),
+    sym (accepted (loadRefusal f out) _ _ (sym e ∙ z)),
+  )
+
+-- an accepted file holds its header
+pub load-long : (f : List ℕ) → first (loadTests f) ≡ 0 → 12 ≤ length f
+unfolding loadTests fileWrong savedLength
+load-long f e =
+    let c = first-clear (11, fileWrong f) _ (λ z. omega arith) e in
+    let same : length f ≡ 12 + 4 * loadedHeader f .«block_count» + 8 * loadedHeader f .«interval_count» =
+    eqb-true _ _ (not-false _ (or-right _ _ (c .0))) in
+    omega arith
+
+-- the saved form does not read the adjustments
+pub save-written
+    : (h : Header) (t e b c x : List ℕ) → Sound h (arrays t e b c)
+    → over (saved (table h (arrays t e b []))) x ≡ over (saved (table h (arrays t e b c))) x
+save-written h t e b c x s =
+    ap (λ f. over f x)
+    (saved-same h t e b [] c (record { tops = s .topsLong; ends = s .endsLong; blocks = s .blocksLong }))

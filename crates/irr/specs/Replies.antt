@@ -1,0 +1,19 @@
+-- What the second halves of calls answer, on a sound table t and sizes s asked for. Assumes nothing.
+use Prim.Native.Nat.{ℕ}
+use mathlib.Core.Path.{_≡_}
+use mathlib.Core.List.{List, _++_}
+use Rattle.model.specs.Table.{Shape, Table}
+use Rattle.model.specs.Refusal.{first}
+use Rattle.model.specs.Expansion.{expanded}
+use Rattle.model.specs.Relocations.{rows}
+use Rattle.model.specs.Calls.{growthTests, orderTests, relocationsAnswer, bufferAfter}
+use Rattle.model.specs.declared.reply.RelocationsReply.{RelocationsReply}
+
+-- the refusal number of a move list
+abbrev pub movesRefusal : Table → Shape → ℕ → ℕ
+movesRefusal t s q = first (growthTests t s ++ orderTests (rows t (expanded t s)) q)
+
+-- a move list's reply r, and what its buffer holds afterwards
+pub record MovesReply (t : Table) (s : Shape) (q : ℕ) (buffer left : List ℕ) (r : RelocationsReply) : Type 0 where
+  pub reply : r ≡ relocationsAnswer (movesRefusal t s q) (rows t (expanded t s)) q buffer
+  pub lent : left ≡ bufferAfter (movesRefusal t s q) (rows t (expanded t s)) q buffer

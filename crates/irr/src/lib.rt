@@ -1,0 +1,419 @@
+// The public calls of the placement map. Each takes any numbers and any arrays, and answers the full result or one refusal
+// number of document 01. A lent table is a header and four arrays: tops, ends, blocks, adjustments.
+ghost use mathlib.Core.Path.{_≡_};
+ghost use Rattle.model.specs.Table.{arrays};
+ghost use Rattle.table.specs.Lent.{lent, LentSound};
+ghost use Rattle.irr.specs.Replies.{MovesReply};
+ghost use Rattle.model.specs.Calls.{
+  initialReply,
+  initialArrays,
+  relocationsReply,
+  relocationsRows,
+  placeReply,
+  findReply,
+  binSizeReply,
+  roomReply,
+  saveReply,
+  saveBytes,
+  loadReply,
+  loadArrays,
+};
+ghost use Rattle.model.specs.Console.{sizes as sizesOf};
+use model::reply::BinSizeReply;
+use model::reply::FindReply;
+use model::reply::LoadReply;
+use model::reply::PlaceReply;
+use model::reply::RelocationsReply;
+use model::reply::RoomReply;
+use model::reply::SaveReply;
+use model::reply::TableReply;
+use model::table::Header;
+
+// A fresh map: writes the table of `buckets` in `bins` to the four arrays.
+pub fn initial(
+    buckets: u32,
+    bins: u32,
+    tops: &mut [u32],
+    ends: &mut [u32],
+    blocks: &mut [u32],
+    adjustments: &mut [u32],
+) -> TableReply
+    ensures { λ r. ⌜ r ≡ initialReply (sizesOf buckets bins) (arrays (now (tops .entry)) (now (ends .entry)) (now (blocks .entry)) (now (adjustments .entry))) ⌝ }
+    ensures { λ _.
+        ⌜
+        arrays (now (tops .exit)) (now (ends .exit)) (now (blocks .exit)) (now (adjustments .exit))
+        ≡ initialArrays (sizesOf buckets bins)
+        (arrays (now (tops .entry)) (now (ends .entry)) (now (blocks .entry)) (now (adjustments .entry)))
+        ⌝ }
+{
+    if sizes::room_short(tops, ends, blocks, adjustments) {
+        return refused_table(21);
+    }
+    let wrong = sizes::size_refusal(buckets, bins);
+    if wrong != 0 {
+        return refused_table(wrong);
+    }
+    sizes::write_initial(buckets, bins, tops, ends, blocks, adjustments);
+    TableReply {
+        refusal: 0,
+        moved: 0,
+        header: Header {
+            buckets,
+            block_count: 1,
+            interval_count: 1,
+        },
+    }
+}
+
+fn refused_table(refusal: u32) -> TableReply
+    ensures { λ r. ⌜ r ≡ record { refusal = refusal; moved = 0; header = record { buckets = 0; «block_count» = 0; «interval_count» = 0 } } ⌝ }
+{
+    TableReply {
+        refusal,
+        moved: 0,
+        header: Header {
+            buckets: 0,
+            block_count: 0,
+            interval_count: 0,
+        },
+    }
+}
+
+// The move list of a growth: rows of five numbers from order number `first` on, written to `rows`.
+pub fn relocations(
+    header: Header,
+    tops: &[u32],
+    ends: &[u32],
+    blocks: &[u32],
+    adjustments: &[u32],
+    buckets: u32,
+    bins: u32,
+    first: u32,
+    rows: &mut [u32],
+) -> RelocationsReply
+    ensures { λ r.
+        ⌜
+        r
+        ≡ relocationsReply header (arrays (now (tops .entry)) (now (ends .entry)) (now (blocks .entry)) (now (adjustments .entry)))
+        (sizesOf buckets bins) first (now (rows .entry))
+        ⌝ }
+    ensures { λ _.
+        ⌜
+        now (rows .exit)
+        ≡ relocationsRows header (arrays (now (tops .entry)) (now (ends .entry)) (now (blocks .entry)) (now (adjustments .entry)))
+        (sizesOf buckets bins) first (now (rows .entry))
+        ⌝ }
+{
+    let refusal = table::check::check(header, tops, ends, blocks, adjustments);
+    if refusal != 0 {
+        return RelocationsReply {
+            refusal,
+            written: 0,
+            total: 0,
+        };
+    }
+    relocated(
+        header,
+        tops,
+        ends,
+        blocks,
+        adjustments,
+        buckets,
+        bins,
+        first,
+        rows,
+    )
+}
+
+// The same of a sound table.
+fn relocated(
+    header: Header,
+    tops: &[u32],
+    ends: &[u32],
+    blocks: &[u32],
+    adjustments: &[u32],
+    buckets: u32,
+    bins: u32,
+    first: u32,
+    rows: &mut [u32],
+) -> RelocationsReply
+    requires { ⌜ LentSound header (now tops) (now ends) (now blocks) (now adjustments) ⌝ }
+    ensures { λ r.
+        ⌜
+        MovesReply (lent header (now (tops .entry)) (now (ends .entry)) (now (blocks .entry)) (now (adjustments .entry)))
+        (sizesOf buckets bins) first (now (rows .entry)) (now (rows .exit)) r
+        ⌝ }
+{
+    let wrong = plan::growth_refusal(header, tops, ends, blocks, adjustments, buckets, bins);
+    if wrong != 0 {
+        return RelocationsReply {
+            refusal: wrong,
+            written: 0,
+            total: 0,
+        };
+    }
+    let total = relocations::relocation_count(
+        header,
+        tops,
+        ends,
+        blocks,
+        adjustments,
+        buckets,
+        bins,
+    );
+    if total < first {
+        return RelocationsReply {
+            refusal: 9,
+            written: 0,
+            total: 0,
+        };
+    }
+    let written = relocations::write_relocations(
+        header,
+        tops,
+        ends,
+        blocks,
+        adjustments,
+        buckets,
+        bins,
+        first,
+        rows,
+    );
+    RelocationsReply {
+        refusal: 0,
+        written,
+        total,
+    }
+}
+
+// The bin and position of a bucket.
+pub fn place(
+    header: Header,
+    tops: &[u32],
+    ends: &[u32],
+    blocks: &[u32],
+    adjustments: &[u32],
+    bucket: u32,
+) -> PlaceReply
+    ensures { λ r. ⌜ r ≡ placeReply header (arrays (now (tops .entry)) (now (ends .entry)) (now (blocks .entry)) (now (adjustments .entry))) bucket ⌝ }
+{
+    let refusal = table::check::check(header, tops, ends, blocks, adjustments);
+    if refusal != 0 {
+        return PlaceReply {
+            refusal,
+            bin: 0,
+            position: 0,
+        };
+    }
+    table::read::placed(header, tops, ends, blocks, adjustments, bucket)
+}
+
+// The bucket at a position of a bin.
+pub fn find(
+    header: Header,
+    tops: &[u32],
+    ends: &[u32],
+    blocks: &[u32],
+    adjustments: &[u32],
+    bin: u32,
+    position: u32,
+) -> FindReply
+    ensures { λ r. ⌜ r ≡ findReply header (arrays (now (tops .entry)) (now (ends .entry)) (now (blocks .entry)) (now (adjustments .entry))) bin position ⌝ }
+{
+    let refusal = table::check::check(header, tops, ends, blocks, adjustments);
+    if refusal != 0 {
+        return FindReply { refusal, bucket: 0 };
+    }
+    table::read::found(header, tops, ends, blocks, adjustments, bin, position)
+}
+
+// The number of buckets in a bin.
+pub fn bin_size(
+    header: Header,
+    tops: &[u32],
+    ends: &[u32],
+    blocks: &[u32],
+    adjustments: &[u32],
+    bin: u32,
+) -> BinSizeReply
+    ensures { λ r. ⌜ r ≡ binSizeReply header (arrays (now (tops .entry)) (now (ends .entry)) (now (blocks .entry)) (now (adjustments .entry))) bin ⌝ }
+{
+    let refusal = table::check::check(header, tops, ends, blocks, adjustments);
+    if refusal != 0 {
+        return BinSizeReply {
+            refusal,
+            buckets: 0,
+        };
+    }
+    table::read::sized(header, tops, ends, blocks, adjustments, bin)
+}
+
+// m(m + 1) / 2 + 1 for 0 to 64 expansions.
+const ROOM: [u32; 65] = [
+    1,
+    2,
+    4,
+    7,
+    11,
+    16,
+    22,
+    29,
+    37,
+    46,
+    56,
+    67,
+    79,
+    92,
+    106,
+    121,
+    137,
+    154,
+    172,
+    191,
+    211,
+    232,
+    254,
+    277,
+    301,
+    326,
+    352,
+    379,
+    407,
+    436,
+    466,
+    497,
+    529,
+    562,
+    596,
+    631,
+    667,
+    704,
+    742,
+    781,
+    821,
+    862,
+    904,
+    947,
+    991,
+    1036,
+    1082,
+    1129,
+    1177,
+    1226,
+    1276,
+    1327,
+    1379,
+    1432,
+    1486,
+    1541,
+    1597,
+    1654,
+    1712,
+    1771,
+    1831,
+    1892,
+    1954,
+    2017,
+    2081,
+];
+
+// The intervals to set aside for a number of expansions.
+pub fn room(expansions: u32) -> RoomReply
+    ensures { λ r. ⌜ r ≡ roomReply expansions ⌝ }
+{
+    if 64 < expansions {
+        return RoomReply {
+            refusal: 9,
+            intervals: 0,
+        };
+    }
+    RoomReply {
+        refusal: 0,
+        intervals: ROOM[expansions as usize],
+    }
+}
+
+// The saved form of a table, written to `buffer`.
+pub fn save(
+    header: Header,
+    tops: &[u32],
+    ends: &[u32],
+    blocks: &[u32],
+    adjustments: &[u32],
+    buffer: &mut [u8],
+) -> SaveReply
+    ensures { λ r.
+        ⌜
+        r
+        ≡ saveReply header (arrays (now (tops .entry)) (now (ends .entry)) (now (blocks .entry)) (now (adjustments .entry)))
+        (now (buffer .entry))
+        ⌝ }
+    ensures { λ _.
+        ⌜
+        now (buffer .exit)
+        ≡ saveBytes header (arrays (now (tops .entry)) (now (ends .entry)) (now (blocks .entry)) (now (adjustments .entry)))
+        (now (buffer .entry))
+        ⌝ }
+{
+    let refusal = table::check::check(header, tops, ends, blocks, adjustments);
+    if refusal != 0 {
+        return SaveReply { refusal, length: 0 };
+    }
+    let length = 12 + 4 * header.block_count + 8 * header.interval_count;
+    if buffer.len() < length as usize {
+        return SaveReply {
+            refusal: 21,
+            length: 0,
+        };
+    }
+    file::save::write_saved(header, tops, ends, blocks, buffer);
+    SaveReply { refusal: 0, length }
+}
+
+// The table of a saved map, written to the four arrays; the adjustments are worked out.
+pub fn load(
+    bytes: &[u8],
+    tops: &mut [u32],
+    ends: &mut [u32],
+    blocks: &mut [u32],
+    adjustments: &mut [u32],
+) -> LoadReply
+    ensures { λ r.
+        ⌜
+        r
+        ≡ loadReply (now (bytes .entry))
+        (arrays (now (tops .entry)) (now (ends .entry)) (now (blocks .entry)) (now (adjustments .entry)))
+        ⌝ }
+    ensures { λ _.
+        ⌜
+        arrays (now (tops .exit)) (now (ends .exit)) (now (blocks .exit)) (now (adjustments .exit))
+        ≡ loadArrays (now (bytes .entry))
+        (arrays (now (tops .entry)) (now (ends .entry)) (now (blocks .entry)) (now (adjustments .entry)))
+        ⌝ }
+{
+    if sizes::room_short(tops, ends, blocks, adjustments) {
+        return refused_load(21);
+    }
+    let broken = file::load::check_file(bytes);
+    if broken != 0 {
+        return refused_load(broken);
+    }
+    file::load::write_loaded(bytes, tops, ends, blocks, adjustments);
+    LoadReply {
+        refusal: 0,
+        header: file::number::header_of(bytes),
+    }
+}
+
+fn refused_load(refusal: u32) -> LoadReply
+    ensures { λ r. ⌜ r ≡ record { refusal = refusal; header = record { buckets = 0; «block_count» = 0; «interval_count» = 0 } } ⌝ }
+{
+    LoadReply {
+        refusal,
+        header: Header {
+            buckets: 0,
+            block_count: 0,
+            interval_count: 0,
+        },
+    }
+}

@@ -1,0 +1,196 @@
+-- Laws of the dues before and after a growth, as arrays with a number for each block. Assumes nothing.
+use Prim.Native.Nat.{ℕ, _+_, _-_, _/_, _≤_, _<_}
+use mathlib.Core.Path.{_≡_, sym, _∙_, ap}
+use mathlib.Core.Logic.{⊎-elim}
+use mathlib.Core.Bool.{true, false, not}
+use mathlib.Core.List.{List}
+use native.Mathlib.Nat.{mul-le-mul-right, div-add-mod, le-of-lt}
+use native.Mathlib.Decide.{ℕ-discrete}
+use native.Mathlib.Omega.{arith}
+use lib.ListN.{
+  length,
+  getD,
+  take,
+  set,
+  replicate,
+  length-set,
+  length-replicate,
+  getD-replicate,
+  List·getD-eq-default,
+}
+use lib.Seq.{length-take-le, getD-take, getD-set-same, getD-set-other}
+use borrow.Author.Tests.{le-leb, lt-leb}
+use Rattle.model.specs.Basics.{sum, before}
+use Rattle.model.specs.Limits.{maxBlocks}
+use Rattle.model.specs.Table.{Shape, Table, bins, shape, firstBin, blockBins}
+use Rattle.model.specs.Due.{dueOfBins, dueOfBlock}
+use Rattle.model.specs.Expansion.{newTops, has, dueAfter, someFall}
+use Rattle.model.specs.Claims.{dueBelow}
+use Rattle.model.proofs.Counts.{below-or}
+use Rattle.model.proofs.Dues.{dues-below, dues-sum, block-closed}
+use Rattle.model.proofs.Intervals.{before-mono}
+use Rattle.model.proofs.Rules.{all-fails}
+use Rattle.model.proofs.Soundness.{not-all}
+use Rattle.model.proofs.Wells.{due-same, Well}
+use Rattle.model.proofs.Growths.{
+  Accepted,
+  tops-same,
+  top-new,
+  before-old,
+  due-old,
+  length-more,
+  block-limits,
+  has-due,
+  has-none,
+  new-rise,
+}
+
+-- DUES OF BLOCKS
+
+-- what the first m bins are due is at most B
+pub due-within : (s : Shape) (m : ℕ) → m ≤ s .bins → dueBelow s m ≤ s .buckets
+unfolding dueBelow
+due-within s m l =
+    omega (arith, mul-le-mul-right (s .buckets / s .bins) l, div-add-mod (s .buckets) (s .bins))
+
+-- past the last block nothing is due
+pub due-past : (s : Shape) (tops : List ℕ) (j : ℕ) → length tops ≤ j → dueOfBlock s tops j ≡ 0
+unfolding dueOfBlock dueOfBins blockBins sum
+due-past s tops j l =
+    let none : blockBins tops j ≡ 0 = omega (arith, List·getD-eq-default tops 0 l) in
+    ap (dueOfBins s (firstBin tops j)) none
+
+-- THE ARRAY
+
+-- the blocks below j have their dues, and the others 0
+pub record Dues (s : Shape) (tops : List ℕ) (j : ℕ) (dues : List ℕ) : Type 0 where
+  pub cells : length dues ≡ maxBlocks
+  pub done : (k : ℕ) → k < j → getD dues k 0 ≡ dueOfBlock s tops k
+  pub todo : (k : ℕ) → j ≤ k → getD dues k 0 ≡ 0
+
+module _ (s : Shape) (tops : List ℕ) where
+  pub dues-none : Dues s tops 0 (replicate maxBlocks 0)
+  dues-none =
+      record {
+        cells = length-replicate {A = ℕ} maxBlocks 0;
+        done = λ k l. absurd (omega arith);
+        todo =
+            λ k l.
+            ⊎-elim
+            (λ b. getD-replicate maxBlocks k 0 0 b)
+            (λ b. List·getD-eq-default (replicate maxBlocks 0) 0 {n = k} (omega (arith, length-replicate {A = ℕ} maxBlocks 0)))
+            (below-or k maxBlocks);
+      }
+
+  -- one block more
+  pub dues-more
+      : (j v : ℕ) (dues : List ℕ) → Dues s tops j dues → j < maxBlocks → v ≡ dueOfBlock s tops j
+      → Dues s tops (j + 1) (set dues j v)
+  dues-more j v dues d l e =
+      record {
+        cells = length-set dues j v ∙ d .cells;
+        done =
+            λ k b.
+            elim (ℕ-discrete k j) [
+              | yes y ↦ rw y (getD-set-same dues j v 0 (omega (arith, d .cells)) ∙ e)
+              | no n ↦ getD-set-other dues j k v 0 n ∙ d .done k (omega arith)
+            ];
+        todo = λ k b. getD-set-other dues j k v 0 (λ y. omega arith) ∙ d .todo k (omega arith);
+      }
+
+  -- all of them
+  pub dues-whole
+      : (n : ℕ) (dues : List ℕ) → Dues s tops n dues → n ≤ length tops → (j : ℕ) → getD dues j 0 ≡ dueOfBlock s (take n tops) j
+  dues-whole n dues d l j =
+      ⊎-elim
+      (λ b. d .done j b ∙ due-same s tops (take n tops) n (λ i k. sym (getD-take n tops i 0 k)) j b)
+      (λ b. d .todo j b ∙ sym (due-past s (take n tops) j (omega (arith, length-take-le n tops l))))
+      (below-or j n)
+
+-- BEFORE A GROWTH
+
+-- a table's own sizes are allowed
+same-accepted : (t : Table) → Well t → Accepted t (shape t)
+unfolding shape bins before
+same-accepted t w =
+    record {
+      someBuckets = w .someBuckets;
+      bucketLimit = w .bucketLimit;
+      someBins =
+          omega (
+            arith,
+            w .topsRise 0 (w .someBlocks),
+            before-mono (t .tops) (length (t .tops)) (w .topsRise) (length (t .tops)) 1 (w .someBlocks) (omega arith),
+          );
+      binLimit = w .binLimit;
+      binsFew = w .binsFew;
+      moreBuckets = omega arith;
+      moreBins = omega arith;
+      blockRoom = λ l. absurd (omega arith);
+    }
+
+-- every block has its due
+pub has-dues : (t : Table) → Well t → (j : ℕ) → has t j ≡ dueOfBlock (shape t) (t .tops) j
+has-dues t w j =
+    ⊎-elim
+    (λ l. has-due t (shape t) w (same-accepted t w) j l)
+    (λ l. has-none t (shape t) w (same-accepted t w) j l ∙ sym (due-past (shape t) (t .tops) j l))
+    (below-or j (length (t .tops)))
+
+-- AFTER A GROWTH
+
+module _ (t : Table) (s : Shape) where
+  -- with no new block all are due what they are by the old tops
+  pub after-same : s .bins ≤ bins t → (j : ℕ) → dueAfter t s j ≡ dueOfBlock s (t .tops) j
+  unfolding dueAfter
+  after-same l j = ap (λ tops. dueOfBlock s tops j) (tops-same t s l)
+
+  module _ (w : Well t) (a : Accepted t s) (more : bins t < s .bins) where
+    -- the new block is due what the old bins leave
+    pub due-new : dueAfter t s (length (t .tops)) + dueBelow s (bins t) ≡ s .buckets
+    unfolding dueAfter bins
+    due-new =
+        let g = length (t .tops) in
+        omega (
+          arith,
+          block-closed s (newTops t s) g (le-of-lt (new-rise t s w a g (omega (arith, length-more t s w a more)))),
+          ap (dueBelow s) (before-old t s g (omega arith)),
+          ap (dueBelow s) (top-new t s more),
+          dues-below s (s .bins),
+          dues-sum s (a .someBins),
+        )
+
+    -- there is room for it
+    pub new-room : length (t .tops) < maxBlocks
+    new-room = omega (arith, length-more t s w a more, block-limits t s w a)
+
+    -- so the array of the old blocks' dues, with the new block's
+    pub after-more
+        : (v : ℕ) (dues : List ℕ) → length dues ≡ maxBlocks → v + dueBelow s (bins t) ≡ s .buckets
+        → ((j : ℕ) → j < maxBlocks → getD dues j 0 ≡ dueOfBlock s (t .tops) j)
+        → (j : ℕ) → j < maxBlocks → getD (set dues (length (t .tops)) v) j 0 ≡ dueAfter t s j
+    unfolding dueAfter
+    after-more v dues cells e d j l =
+        let g = length (t .tops) in
+        ⊎-elim
+        (λ b. getD-set-other dues g j v 0 (λ y. omega arith) ∙ d j l ∙ sym (due-old t s j b))
+        (λ b.
+        elim (ℕ-discrete j g) [
+          | yes y ↦ rw y (getD-set-same dues g v 0 (omega (arith, new-room)) ∙ omega (arith, due-new))
+          | no n ↦
+              getD-set-other dues g j v 0 n
+              ∙ d j l
+              ∙ due-past s (t .tops) j b
+              ∙ sym (due-past s (newTops t s) j (omega (arith, length-more t s w a more)))
+        ])
+        (below-or j g)
+
+  -- WHETHER SOME BLOCK FALLS
+
+  pub fall-here : (j : ℕ) → j < length (t .tops) → dueAfter t s j < has t j → someFall t s ≡ true
+  unfolding someFall
+  fall-here j l b = ap not (all-fails _ (length (t .tops)) j l (lt-leb (has t j) (dueAfter t s j) b))
+
+  pub fall-none : ((j : ℕ) → j < length (t .tops) → has t j ≤ dueAfter t s j) → someFall t s ≡ false
+  unfolding someFall
+  fall-none up = not-all _ (length (t .tops)) (λ j l. le-leb (has t j) (dueAfter t s j) (up j l))

@@ -1,0 +1,360 @@
+-- A lent table is sound exactly where the tests of rules 11 to 16 fail, and the table of `initial` is. Assumes nothing.
+use Prim.Native.Nat.{ℕ, zero, suc, _≤_, _<_}
+use mathlib.Core.Path.{_≡_, refl, sym, _∙_, ap, subst₂}
+use mathlib.Core.Bool.{Bool, true, false, not}
+use mathlib.Core.List.{List}
+use native.Mathlib.Nat.{le-refl}
+use native.Mathlib.Omega.{arith}
+use lib.Dec.{ltb, eqb}
+use lib.ListN.{length, getD}
+use borrow.Author.Tests.{ltb-true, ltb-false, lt-ltb, le-ltb, eqb-true, eq-eqb, not-false}
+use Rattle.model.specs.Basics.{sum, count, all, before}
+use Rattle.model.specs.Limits.{maxBuckets, maxBins, maxBlocks, maxIntervals}
+use Rattle.model.specs.Table.{Shape, Table, bins, shape, Arrays, table, header, over, written}
+use Rattle.model.specs.Place.{held, others}
+use Rattle.model.specs.Due.{dueOfBlock}
+use Rattle.model.specs.Refusal.{
+  first,
+  rises,
+  sizeOutside,
+  fewBuckets,
+  headerOutside,
+  arraysShort,
+  topsWrong,
+  endsWrong,
+  blocksWrong,
+  holdingsWrong,
+  adjustmentOf,
+  adjustmentsWrong,
+}
+use Rattle.model.specs.Sound.{Sound}
+use Rattle.model.specs.Initial.{initial}
+use Rattle.model.specs.Calls.{
+  tableTests,
+  sizeTests,
+  growthTests,
+  tableReply,
+  arraysAfter,
+  initialRefusal,
+  initialReply,
+  initialArrays,
+}
+use Rattle.model.specs.TableClaims.{SoundIff, InitialSound}
+use Rattle.model.specs.declared.table.Header.{Header}
+use Rattle.model.specs.declared.reply.TableReply.{TableReply}
+use Rattle.model.proofs.Counts.{all-at, all-holds}
+use Rattle.model.proofs.Dues.{dues-below, dues-sum, block-closed, rises-at}
+use Rattle.model.proofs.Intervals.{held-own}
+use Rattle.model.proofs.Refusals.{
+  or-left,
+  or-right,
+  or-both,
+  not-clear,
+  inside,
+  not-outside,
+  first-clear,
+  first-pass,
+  first-none,
+  Numbered,
+  accepted,
+}
+use Rattle.model.proofs.Tables.{
+  table-written,
+  before-same,
+  Alike,
+  held-alike,
+  adjustment-alike,
+  shape-alike,
+  due-alike,
+  tops-long,
+  column-long,
+  column-at,
+  written-alike,
+}
+
+-- THE TESTS OF A LENT TABLE
+
+-- no test of rules 11 to 16 holds
+pub record Passes (h : Header) (a : Arrays) : Type 0 where
+  pub header : headerOutside h ≡ false
+  pub arrays : arraysShort h a ≡ false
+  pub tops : topsWrong h (a .tops) ≡ false
+  pub ends : endsWrong h (a .ends) ≡ false
+  pub blocks : blocksWrong h (a .blocks) ≡ false
+  pub holdings : holdingsWrong h a ≡ false
+  pub adjustments : adjustmentsWrong h a ≡ false
+
+-- a negated test over all numbers below n, and the other way
+pub all-not : (p : ℕ → Bool) (n : ℕ) → not (all p n) ≡ false → (i : ℕ) → i < n → p i ≡ true
+all-not p n e = all-at p n (not-false (all p n) e)
+
+pub not-all : (p : ℕ → Bool) (n : ℕ) → ((i : ℕ) → i < n → p i ≡ true) → not (all p n) ≡ false
+not-all p n e = not-clear (all p n) (all-holds p n e)
+
+-- then the table is sound
+pub passes-sound : (h : Header) (a : Arrays) → Passes h a → Sound h a
+unfolding headerOutside arraysShort topsWrong endsWrong blocksWrong holdingsWrong adjustmentsWrong
+passes-sound h a p =
+    let b = inside maxBuckets (h .buckets) (or-left _ _ (or-left _ _ (p .header))) in
+    let g = inside maxBlocks (h .«block_count») (or-right _ _ (or-left _ _ (p .header))) in
+    let k = inside maxIntervals (h .«interval_count») (or-right _ _ (p .header)) in
+    record {
+      someBuckets = b .0;
+      bucketLimit = b .1;
+      someBlocks = g .0;
+      blockLimit = g .1;
+      someIntervals = k .0;
+      intervalLimit = k .1;
+      topsLong = ltb-false _ _ (or-left _ _ (or-left _ _ (or-left _ _ (p .arrays))));
+      endsLong = ltb-false _ _ (or-right _ _ (or-left _ _ (or-left _ _ (p .arrays))));
+      blocksLong = ltb-false _ _ (or-right _ _ (or-left _ _ (p .arrays)));
+      adjustmentsLong = ltb-false _ _ (or-right _ _ (p .arrays));
+      topsRise = rises-at (a .tops) (h .«block_count») (not-false _ (or-left _ _ (or-left _ _ (p .tops))));
+      binLimit = ltb-false _ _ (or-right _ _ (or-left _ _ (p .tops)));
+      binsFew = ltb-false _ _ (or-right _ _ (p .tops));
+      endsRise = rises-at (a .ends) (h .«interval_count») (not-false _ (or-left _ _ (p .ends)));
+      lastEnd = eqb-true _ _ (not-false _ (or-right _ _ (p .ends)));
+      blocksBelow = λ i l. ltb-true _ _ (all-not (λ i. ltb (getD (a .blocks) i 0) (h .«block_count»)) _ (p .blocks) i l);
+      holdings =
+          λ j l.
+          eqb-true _ _
+          (all-not (λ j. eqb (held (table h a) j (h .buckets)) (dueOfBlock (shape (table h a)) (a .tops) j)) _ (p .holdings) j l);
+      adjusted =
+          λ i l. eqb-true _ _ (all-not (λ i. eqb (getD (a .adjustments) i 0) (adjustmentOf h a i)) _ (p .adjustments) i l);
+    }
+
+-- the other way of `rises-at`
+pub rises-holds : (xs : List ℕ) (n : ℕ) → ((i : ℕ) → i < n → before xs i < getD xs i 0) → rises xs n ≡ true
+unfolding rises
+rises-holds xs n r = all-holds (λ i. ltb (before xs i) (getD xs i 0)) n (λ i l. lt-ltb (before xs i) (getD xs i 0) (r i l))
+
+-- and a sound table passes
+pub sound-passes : (h : Header) (a : Arrays) → Sound h a → Passes h a
+unfolding headerOutside arraysShort topsWrong endsWrong blocksWrong holdingsWrong adjustmentsWrong
+sound-passes h a s =
+    record {
+      header =
+          or-both _ _
+          (or-both _ _
+          (not-outside maxBuckets (h .buckets) (s .someBuckets) (s .bucketLimit))
+          (not-outside maxBlocks (h .«block_count») (s .someBlocks) (s .blockLimit)))
+          (not-outside maxIntervals (h .«interval_count») (s .someIntervals) (s .intervalLimit));
+      arrays =
+          or-both _ _
+          (or-both _ _
+          (or-both _ _ (le-ltb _ _ (s .topsLong)) (le-ltb _ _ (s .endsLong)))
+          (le-ltb _ _ (s .blocksLong)))
+          (le-ltb _ _ (s .adjustmentsLong));
+      tops =
+          or-both _ _
+          (or-both _ _ (not-clear _ (rises-holds (a .tops) (h .«block_count») (s .topsRise))) (le-ltb _ _ (s .binLimit)))
+          (le-ltb _ _ (s .binsFew));
+      ends =
+          or-both _ _
+          (not-clear _ (rises-holds (a .ends) (h .«interval_count») (s .endsRise)))
+          (not-clear _ (eq-eqb _ _ (s .lastEnd)));
+      blocks = not-all _ _ (λ i l. lt-ltb _ _ (s .blocksBelow i l));
+      holdings = not-all _ _ (λ j l. eq-eqb _ _ (s .holdings j l));
+      adjustments = not-all _ _ (λ i l. eq-eqb _ _ (s .adjusted i l));
+    }
+
+-- the check answers 0 exactly where the table is sound
+pub sound-iff : SoundIff
+unfolding tableTests
+sound-iff h a = (λ e. passes-sound h a (passed e), λ s. cleared (sound-passes h a s))
+  where
+    passed : first (tableTests h a) ≡ 0 → Passes h a
+    passed e =
+        let t = first-clear _ _ (λ z. omega arith) e in
+        let u = first-clear _ _ (λ z. omega arith) (t .1) in
+        let v = first-clear _ _ (λ z. omega arith) (u .1) in
+        let w = first-clear _ _ (λ z. omega arith) (v .1) in
+        let x = first-clear _ _ (λ z. omega arith) (w .1) in
+        let y = first-clear _ _ (λ z. omega arith) (x .1) in
+        record {
+          header = or-left _ _ (t .0);
+          arrays = or-right _ _ (t .0);
+          tops = u .0;
+          ends = v .0;
+          blocks = w .0;
+          holdings = x .0;
+          adjustments = y .0;
+        }
+
+    cleared : Passes h a → first (tableTests h a) ≡ 0
+    cleared p =
+        first-pass _ _ (or-both _ _ (p .header) (p .arrays))
+        (first-pass _ _ (p .tops)
+        (first-pass _ _ (p .ends)
+        (first-pass _ _ (p .blocks) (first-pass _ _ (p .holdings) (first-pass _ _ (p .adjustments) first-none)))))
+
+-- none of those tests, nor of a growth's, has number 0
+pub table-numbered : (h : Header) (a : Arrays) → Numbered (tableTests h a)
+unfolding tableTests
+table-numbered h a = omega arith
+
+pub growth-numbered : (t : Table) (s : Shape) → Numbered (growthTests t s)
+unfolding growthTests sizeTests
+growth-numbered t s = omega arith
+
+-- A TABLE ALIKE
+
+-- soundness depends only on the entries that are part of the table
+pub sound-alike
+    : (h : Header) (a b : Arrays) → Sound h a → Alike h a b
+    → h .«block_count» ≤ length (b .tops)
+    → h .«interval_count» ≤ length (b .ends)
+    → h .«interval_count» ≤ length (b .blocks)
+    → h .«interval_count» ≤ length (b .adjustments)
+    → ((i : ℕ) → i < h .«interval_count» → getD (a .adjustments) i 0 ≡ getD (b .adjustments) i 0)
+    → Sound h b
+sound-alike h a b s e tops ends blocks adjustments same =
+    record {
+      someBuckets = s .someBuckets;
+      bucketLimit = s .bucketLimit;
+      someBlocks = s .someBlocks;
+      blockLimit = s .blockLimit;
+      someIntervals = s .someIntervals;
+      intervalLimit = s .intervalLimit;
+      topsLong = tops;
+      endsLong = ends;
+      blocksLong = blocks;
+      adjustmentsLong = adjustments;
+      topsRise = λ j l. omega (arith, s .topsRise j l, e .tops j l, top j (omega arith));
+      binLimit = omega (arith, s .binLimit, top (h .«block_count») (le-refl (h .«block_count»)));
+      binsFew = omega (arith, s .binsFew, top (h .«block_count») (le-refl (h .«block_count»)));
+      endsRise = λ i l. omega (arith, s .endsRise i l, e .ends i l, end i (omega arith));
+      lastEnd = omega (arith, s .lastEnd, end (h .«interval_count») (le-refl (h .«interval_count»)));
+      blocksBelow = λ i l. omega (arith, s .blocksBelow i l, e .blocks i l);
+      holdings =
+          λ j l.
+          sym (held-alike h a b e j (h .buckets))
+          ∙ s .holdings j l
+          ∙ due-alike h a b e (shape (table h a)) j l
+          ∙ ap (λ z. dueOfBlock z (b .tops) j) (shape-alike h a b e (s .topsLong) tops);
+      adjusted = λ i l. sym (same i l) ∙ s .adjusted i l ∙ adjustment-alike h a b e i l;
+    }
+  where
+    top : (j : ℕ) → j ≤ h .«block_count» → before (a .tops) j ≡ before (b .tops) j
+    top = before-same (a .tops) (b .tops) (h .«block_count») (e .tops)
+
+    end : (i : ℕ) → i ≤ h .«interval_count» → before (a .ends) i ≡ before (b .ends) i
+    end = before-same (a .ends) (b .ends) (h .«interval_count») (e .ends)
+
+-- a sound table stays sound where it is written
+pub sound-written : (h : Header) (a out : Arrays) → Sound h a → Sound h (written (table h a) out)
+unfolding written
+sound-written h a out s =
+    sound-alike h a (written (table h a) out) s (written-alike h a out (s .topsLong))
+    (tops-long h a (out .tops) (s .topsLong))
+    (column-long h a (λ v. v .end) (out .ends))
+    (column-long h a (λ v. v .block) (out .blocks))
+    (column-long h a (λ v. v .adjustment) (out .adjustments))
+    (λ i l. sym (column-at h a (λ v. v .adjustment) (out .adjustments) i l))
+
+-- SIZES ASKED FOR
+
+-- the sizes of a map within their limits
+pub record Allowed (s : Shape) : Type 0 where
+  pub someBuckets : 1 ≤ s .buckets
+  pub bucketLimit : s .buckets ≤ maxBuckets
+  pub someBins : 1 ≤ s .bins
+  pub binLimit : s .bins ≤ maxBins
+  pub binsFew : s .bins ≤ s .buckets
+
+-- no test of rules 1 and 2 holds
+pub allowed : (s : Shape) → first (sizeTests s) ≡ 0 → Allowed s
+unfolding sizeTests sizeOutside fewBuckets
+allowed s e =
+    let t = first-clear _ _ (λ z. omega arith) e in
+    let u = first-clear _ _ (λ z. omega arith) (t .1) in
+    let b = inside maxBuckets (s .buckets) (or-left _ _ (t .0)) in
+    let n = inside maxBins (s .bins) (or-right _ _ (t .0)) in
+    record {
+      someBuckets = b .0;
+      bucketLimit = b .1;
+      someBins = n .0;
+      binLimit = n .1;
+      binsFew = ltb-false (s .buckets) (s .bins) (u .0);
+    }
+
+-- THE TABLE OF `initial`
+
+-- what holds at 0 holds below 1
+only : (P : ℕ → Type 0) → P 0 → (j : ℕ) → j < 1 → P j
+only P p zero l = p
+only P p (suc j) l = absurd (omega arith)
+
+module _ (s : Shape) (out : Arrays) (fit : Allowed s) where
+  abbrev h : Header
+  h = header (initial s)
+
+  abbrev a : Arrays
+  a = written (initial s) out
+
+  -- its one block holds all buckets
+  initial-held : held (table h a) 0 (s .buckets) ≡ s .buckets
+  unfolding initial header written over before held count sum
+  initial-held =
+      held-own h a (only _ (fit .someBuckets)) 0 0 (s .buckets) (omega arith) (omega arith) (le-refl (s .buckets)) refl
+      ∙ omega arith
+
+  -- and is due all of them
+  initial-due : dueOfBlock s (a .tops) 0 ≡ s .buckets
+  unfolding initial written over before sum
+  initial-due =
+      omega (
+        arith,
+        block-closed s (a .tops) 0 (omega arith),
+        dues-below s 0,
+        dues-below s (s .bins),
+        dues-sum s (fit .someBins),
+      )
+
+  -- its sizes are those asked for
+  initial-shape : shape (table h a) ≡ s
+  unfolding initial shape bins before
+  initial-shape = ap shape (table-written (initial s) out)
+
+  -- so it is sound
+  pub initial-table : Sound (header (initial s)) (written (initial s) out)
+  unfolding initial header written over before adjustmentOf others count sum
+  initial-table =
+      record {
+        someBuckets = fit .someBuckets;
+        bucketLimit = fit .bucketLimit;
+        someBlocks = omega arith;
+        blockLimit = omega arith;
+        someIntervals = omega arith;
+        intervalLimit = omega arith;
+        topsLong = omega arith;
+        endsLong = omega arith;
+        blocksLong = omega arith;
+        adjustmentsLong = omega arith;
+        topsRise = only _ (fit .someBins);
+        binLimit = fit .binLimit;
+        binsFew = fit .binsFew;
+        endsRise = only _ (fit .someBuckets);
+        lastEnd = refl;
+        blocksBelow = only _ (omega arith);
+        holdings = only _ (initial-held ∙ sym initial-due ∙ ap (λ z. dueOfBlock z (a .tops) 0) (sym initial-shape));
+        adjusted = only _ refl;
+      }
+
+-- an accepted call replies with the header of its table, and writes the table
+pub reply-header : (r m : ℕ) (t : Table) → r ≡ 0 → tableReply r m t .header ≡ header t
+unfolding tableReply
+reply-header r m t e = ap (λ (v : TableReply). v .header) (accepted r _ _ e)
+
+pub arrays-written : (r : ℕ) (t : Table) (out : Arrays) → r ≡ 0 → arraysAfter r t out ≡ written t out
+unfolding arraysAfter
+arrays-written r t out e = accepted r (written t out) out e
+
+-- the table of an accepted `initial` is sound
+pub initial-sound : InitialSound
+unfolding initialRefusal initialReply initialArrays
+initial-sound s out e =
+    subst₂ Sound
+    (sym (reply-header (initialRefusal s out) 0 (initial s) e))
+    (sym (arrays-written (initialRefusal s out) (initial s) out e))
+    (initial-table s out (allowed s (first-clear _ _ (λ z. omega arith) e .1)))

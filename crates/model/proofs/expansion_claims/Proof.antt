@@ -1,0 +1,19 @@
+-- `model::expansion_claims` meets its contract: a proof of each claim. Assumes nothing.
+use Rattle.model.proofs.Expanded.{expand-stays}
+use Rattle.model.proofs.Kept.{expand-is-sound, places-kept, moved-is-least, total-is-least, total-decided}
+use Rattle.model.proofs.expansion_claims.Statement.{statement}
+use Rattle.model.proofs.expansion_claims.Tie as tie
+
+returns : tie.Need-returns
+returns c =
+    record {
+      expandSound = expand-is-sound;
+      expandStays = expand-stays;
+      expandPlaces = places-kept;
+      movedLeast = moved-is-least;
+      leastTotal = total-is-least;
+      leastTotalDecided = total-decided;
+    }
+
+pub expansion-claims-spec : {M : Type 1} → statement M
+expansion-claims-spec = tie.close (tie.spec returns)

@@ -1,0 +1,24 @@
+-- `model::table_claims` meets its contract: a proof of each claim. Assumes nothing.
+use Rattle.model.proofs.Soundness.{sound-iff, initial-sound}
+use Rattle.model.proofs.Places.{size-due, table-balanced}
+use Rattle.model.proofs.Finds.{find-placed, place-found}
+use Rattle.model.proofs.Files.{load-sound, saved-loaded, loaded-saved}
+use Rattle.model.proofs.table_claims.Statement.{statement}
+use Rattle.model.proofs.table_claims.Tie as tie
+
+returns : tie.Need-returns
+returns c =
+    record {
+      soundIff = sound-iff;
+      initialSound = initial-sound;
+      loadSound = load-sound;
+      sizeDue = size-due;
+      tableBalanced = table-balanced;
+      findPlaced = find-placed;
+      placeFound = place-found;
+      savedLoaded = saved-loaded;
+      loadedSaved = loaded-saved;
+    }
+
+pub table-claims-spec : {M : Type 1} → statement M
+table-claims-spec = tie.close (tie.spec returns)

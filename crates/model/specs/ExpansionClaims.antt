@@ -1,0 +1,78 @@
+-- What is proved of growth and of demand 3. Each claim is a type. Assumes nothing.
+use Prim.Native.Nat.{ℕ, _≤_, _<_}
+use mathlib.Core.Path.{_≡_}
+use mathlib.Core.Logic.{_⊎_, _↔_}
+use mathlib.Core.List.{List}
+use lib.ListN.{length}
+use Rattle.model.specs.Table.{Shape, Table, bins, shape, Arrays, table}
+use Rattle.model.specs.Place.{blockOf, rank, bin, position}
+use Rattle.model.specs.Refusal.{first}
+use Rattle.model.specs.Sound.{Sound}
+use Rattle.model.specs.Expansion.{expanded, moved}
+use Rattle.model.specs.Relocations.{rows}
+use Rattle.model.specs.Calls.{growthTests, initialRefusal, expandRefusal, expandReply, expandArrays}
+use Rattle.model.specs.Balance.{Rival, total, AllOptimal, least}
+use Rattle.model.specs.History.{Call, started, movedTotal, shapes}
+use Rattle.model.specs.declared.table.Header.{Header}
+
+-- the table of an accepted growth is sound
+abbrev pub ExpandSound : Type 0
+ExpandSound =
+    (h : Header) (a : Arrays) (s : Shape) (out : Arrays) → expandRefusal h a s out ≡ 0
+    → Sound (expandReply h a s out .header) (expandArrays h a s out)
+
+-- a bucket has the same block and rank in two tables
+abbrev pub Stays : Table → Table → ℕ → Type 0
+Stays t u x = (blockOf u x ≡ blockOf t x) × (rank u x ≡ rank t x)
+
+-- a growth either moves no old bucket, or adds a block to which it sends every bucket, old or new, that does not stay
+abbrev pub ExpandStays : Type 0
+ExpandStays =
+    (h : Header) (a : Arrays) (s : Shape) → Sound h a → first (growthTests (table h a) s) ≡ 0
+    → ((x : ℕ) → x < h .buckets → Stays (table h a) (expanded (table h a) s) x)
+    ⊎ ((bins (table h a) < s .bins)
+    × ((x : ℕ) → x < s .buckets
+    → ((x < h .buckets) × Stays (table h a) (expanded (table h a) s) x)
+    ⊎ (blockOf (expanded (table h a) s) x ≡ h .«block_count»)))
+
+-- no bucket that stays in its bin changes its position, and every moved bucket goes to the new block's bins
+abbrev pub ExpandPlaces : Type 0
+ExpandPlaces =
+    (h : Header) (a : Arrays) (s : Shape) → Sound h a → first (growthTests (table h a) s) ≡ 0
+    → (x : ℕ) → x < h .buckets
+    → ((bin (expanded (table h a) s) x ≡ bin (table h a) x)
+    × (position (expanded (table h a) s) x ≡ position (table h a) x))
+    ⊎ ((bins (table h a) ≤ bin (expanded (table h a) s) x)
+    × (blockOf (expanded (table h a) s) x ≡ h .«block_count»))
+
+-- the moved count is max(0, B - T), and the number of rows
+abbrev pub MovedLeast : Type 0
+MovedLeast =
+    (h : Header) (a : Arrays) (s : Shape) → Sound h a → first (growthTests (table h a) s) ≡ 0
+    → (moved (table h a) (expanded (table h a) s) ≡ least (shape (table h a)) s)
+    × (length (rows (table h a) (expanded (table h a) s)) ≡ moved (table h a) (expanded (table h a) s))
+
+-- demand 3: for every accepted fresh call, every list of growth calls and every rival of the accepted sizes, our total equals
+-- the rival's just where each growth of the rival meets the condition, and is smaller in every other case
+abbrev pub LeastTotal : Type 0
+LeastTotal =
+    (c : Call) (cs : List Call) → initialRefusal (c .sizes) (c .out) ≡ 0
+    → (r : Rival (c .sizes) (shapes (started c) cs))
+    → ((movedTotal (started c) cs ≡ total r) ↔ AllOptimal r)
+    × ((movedTotal (started c) cs ≡ total r → ⊥) → movedTotal (started c) cs < total r)
+
+-- the same, decided
+abbrev pub LeastTotalDecided : Type 0
+LeastTotalDecided =
+    (c : Call) (cs : List Call) → initialRefusal (c .sizes) (c .out) ≡ 0
+    → (r : Rival (c .sizes) (shapes (started c) cs))
+    → ((movedTotal (started c) cs ≡ total r) × AllOptimal r)
+    ⊎ ((movedTotal (started c) cs < total r) × (AllOptimal r → ⊥))
+
+pub record ExpansionClaims : Type 0 where
+  pub expandSound : ExpandSound
+  pub expandStays : ExpandStays
+  pub expandPlaces : ExpandPlaces
+  pub movedLeast : MovedLeast
+  pub leastTotal : LeastTotal
+  pub leastTotalDecided : LeastTotalDecided

@@ -1,0 +1,87 @@
+-- What is proved of lent tables and files: soundness, places, and keeping. Each claim is a type. Assumes nothing.
+use Prim.Native.Nat.{ℕ, _≤_, _<_}
+use mathlib.Core.Path.{_≡_}
+use mathlib.Core.Logic.{_↔_}
+use mathlib.Core.Bool.{false}
+use mathlib.Core.List.{List}
+use lib.ListN.{length, getD}
+use Rattle.model.specs.Table.{Shape, bins, shape, Arrays, table}
+use Rattle.model.specs.Place.{bin, position, bucketAt, binSize}
+use Rattle.model.specs.Due.{due}
+use Rattle.model.specs.Refusal.{first, roomShort}
+use Rattle.model.specs.Sound.{Sound}
+use Rattle.model.specs.Saved.{saved}
+use Rattle.model.specs.Calls.{
+  tableTests,
+  initialRefusal,
+  initialReply,
+  initialArrays,
+  loadRefusal,
+  loadReply,
+  loadArrays,
+}
+use Rattle.model.specs.Balance.{Balanced}
+use Rattle.model.specs.declared.table.Header.{Header}
+
+-- the check answers 0 exactly where the table is sound
+abbrev pub SoundIff : Type 0
+SoundIff = (h : Header) (a : Arrays) → (first (tableTests h a) ≡ 0) ↔ Sound h a
+
+-- the tables of accepted calls are sound
+abbrev pub InitialSound : Type 0
+InitialSound = (s : Shape) (out : Arrays) → initialRefusal s out ≡ 0 → Sound (initialReply s out .header) (initialArrays s out)
+
+abbrev pub LoadSound : Type 0
+LoadSound = (f : List ℕ) (out : Arrays) → loadRefusal f out ≡ 0 → Sound (loadReply f out .header) (loadArrays f out)
+
+-- every bin of a sound table holds its due size, so the mapping is balanced
+abbrev pub SizeDue : Type 0
+SizeDue =
+    (h : Header) (a : Arrays) → Sound h a
+    → (y : ℕ) → y < bins (table h a) → binSize (table h a) y ≡ due (shape (table h a)) y
+
+abbrev pub TableBalanced : Type 0
+TableBalanced = (h : Header) (a : Arrays) → Sound h a → Balanced (shape (table h a)) (bin (table h a))
+
+-- find undoes place, and the positions of a bin are below its size
+abbrev pub FindPlaced : Type 0
+FindPlaced =
+    (h : Header) (a : Arrays) → Sound h a
+    → (x : ℕ) → x < h .buckets
+    → (bin (table h a) x < bins (table h a))
+    × (position (table h a) x < binSize (table h a) (bin (table h a) x))
+    × (bucketAt (table h a) (bin (table h a) x) (position (table h a) x) ≡ x)
+
+-- place undoes find, and every position below a bin's size has a bucket
+abbrev pub PlaceFound : Type 0
+PlaceFound =
+    (h : Header) (a : Arrays) → Sound h a
+    → (y p : ℕ) → y < bins (table h a) → p < binSize (table h a) y
+    → (bucketAt (table h a) y p < h .buckets)
+    × (bin (table h a) (bucketAt (table h a) y p) ≡ y)
+    × (position (table h a) (bucketAt (table h a) y p) ≡ p)
+
+-- a sound table, saved and loaded, is the same table
+abbrev pub SavedLoaded : Type 0
+SavedLoaded =
+    (h : Header) (a out : Arrays) → Sound h a → roomShort out ≡ false
+    → (loadRefusal (saved (table h a)) out ≡ 0)
+    × (loadReply (saved (table h a)) out .header ≡ h)
+    × (table h (loadArrays (saved (table h a)) out) ≡ table h a)
+
+-- an accepted file, loaded and saved, is the same bytes
+abbrev pub LoadedSaved : Type 0
+LoadedSaved =
+    (f : List ℕ) (out : Arrays) → ((i : ℕ) → i < length f → getD f i 0 < 256) → loadRefusal f out ≡ 0
+    → saved (table (loadReply f out .header) (loadArrays f out)) ≡ f
+
+pub record TableClaims : Type 0 where
+  pub soundIff : SoundIff
+  pub initialSound : InitialSound
+  pub loadSound : LoadSound
+  pub sizeDue : SizeDue
+  pub tableBalanced : TableBalanced
+  pub findPlaced : FindPlaced
+  pub placeFound : PlaceFound
+  pub savedLoaded : SavedLoaded
+  pub loadedSaved : LoadedSaved

@@ -1,0 +1,72 @@
+-- What the sound table and the array of dues show of one turn of a loop. Assumes nothing.
+use Prim.Native.Nat.{ℕ, _+_, _≤_, _<_}
+use mathlib.Core.Path.{_≡_}
+use mathlib.Core.List.{List}
+use native.Mathlib.Nat.{le-of-lt}
+use native.Mathlib.Omega.{arith}
+use lib.ListN.{getD}
+use Rattle.model.specs.Basics.{before}
+use Rattle.model.specs.Limits.{maxBlocks}
+use Rattle.model.specs.Table.{Shape, Arrays}
+use Rattle.model.specs.Due.{dueOfBlock}
+use Rattle.model.specs.Sound.{Sound}
+use Rattle.model.specs.Claims.{dueBelow}
+use Rattle.model.specs.declared.table.Header.{Header}
+use Rattle.model.proofs.Dues.{block-closed}
+use Rattle.model.proofs.Intervals.{before-mono}
+use Rattle.model.proofs.Rules.{before-next}
+use Rattle.model.proofs.Wells.{adjustment-most}
+use Rattle.model.proofs.Shares.{due-within}
+use Rattle.plan.specs.Shares.{TopsWithin}
+
+-- at block j: what the bins up to and including it are due is at most B, and is its due more than what those before it are
+pub record DueTurn (s : Shape) (tops : List ℕ) (j : ℕ) : Type 0 where
+  pub fits : dueBelow s (getD tops j 0) ≤ s .buckets
+  pub closed : dueOfBlock s tops j + dueBelow s (before tops j) ≡ dueBelow s (getD tops j 0)
+
+pub due-turn
+    : (s : Shape) (tops : List ℕ) (count : ℕ) → TopsWithin tops count (s .bins) → (j : ℕ) → j < count → DueTurn s tops j
+due-turn s tops count p j l =
+    record {
+      fits =
+          due-within s (getD tops j 0)
+          (omega (
+            arith,
+            before-mono tops count (p .rise) count (j + 1) (omega arith) (omega arith),
+            before-next tops j,
+            p .within,
+          ));
+      closed = block-closed s tops j (le-of-lt (p .rise j l));
+    }
+
+module _ (h : Header) (a : Arrays) (sound : Sound h a) where
+  -- the tops of a sound table, in a map of at least as many bins
+  pub sound-tops : (n : ℕ) → before (a .tops) (h .«block_count») ≤ n → TopsWithin (a .tops) (h .«block_count») n
+  sound-tops n l =
+      record {
+        few = sound .blockLimit;
+        long = sound .topsLong;
+        rise = sound .topsRise;
+        within = l;
+        some =
+            omega (
+              arith,
+              sound .topsRise 0 (sound .someBlocks),
+              before-next (a .tops) 0,
+              before-mono (a .tops) (h .«block_count») (sound .topsRise) (h .«block_count») 1 (sound .someBlocks) (omega arith),
+            );
+      }
+
+  -- at interval i: its block, its start, its end and its adjustment
+  pub record IntervalTurn (i : ℕ) : Type 0 where
+    pub block : getD (a .blocks) i 0 < maxBlocks
+    pub later : before (a .ends) i < getD (a .ends) i 0
+    pub adjusted : getD (a .adjustments) i 0 ≤ before (a .ends) i
+
+  pub interval-turn : (i : ℕ) → i < h .«interval_count» → IntervalTurn i
+  interval-turn i l =
+      record {
+        block = omega (arith, sound .blocksBelow i l, sound .blockLimit);
+        later = sound .endsRise i l;
+        adjusted = adjustment-most h a sound i l;
+      }

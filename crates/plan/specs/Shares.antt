@@ -1,0 +1,25 @@
+-- Arrays of 65 numbers, one for each block, as the contracts cite them. Assumes nothing.
+use Prim.Native.Nat.{ℕ, _≤_, _<_}
+use mathlib.Core.Path.{_≡_}
+use mathlib.Core.List.{List}
+use lib.ListN.{length, getD}
+use Rattle.model.specs.Basics.{before}
+use Rattle.model.specs.Limits.{maxBlocks}
+use Rattle.model.specs.Table.{Shape, Table}
+use Rattle.model.specs.Expansion.{has, dueAfter}
+
+-- `count` rising tops of a map with at least that many bins
+pub record TopsWithin (tops : List ℕ) (count bins : ℕ) : Type 0 where
+  pub few : count ≤ maxBlocks
+  pub long : count ≤ length tops
+  pub rise : (j : ℕ) → j < count → before tops j < getD tops j 0
+  pub within : before tops count ≤ bins
+  pub some : 1 ≤ bins
+
+-- what each block is due after a growth; 0 past the last block
+abbrev pub DuesAfter : Table → Shape → List ℕ → Type 0
+DuesAfter t s dues = (j : ℕ) → j < maxBlocks → getD dues j 0 ≡ dueAfter t s j
+
+-- what each block has before it
+abbrev pub DuesBefore : Table → List ℕ → Type 0
+DuesBefore t dues = (j : ℕ) → j < maxBlocks → getD dues j 0 ≡ has t j

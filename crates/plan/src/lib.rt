@@ -1,0 +1,253 @@
+// What a growth asks for and does, on a sound table: its refusals, the dues after it, and the plan for an interval.
+ghost use Prim.Native.Nat.{ℕ, _<_, _≤_};
+ghost use mathlib.Core.Path.{_≡_};
+ghost use lib.ListN.{length, getD, take};
+ghost use Rattle.model.specs.Basics.{before as entryBefore};
+ghost use Rattle.model.specs.Table.{interval};
+ghost use Rattle.model.specs.Due.{dueOfBlock};
+ghost use Rattle.model.specs.Refusal.{first};
+ghost use Rattle.model.specs.Expansion.{newTops, someFall, plan, planFor};
+ghost use Rattle.model.specs.Calls.{growthTests};
+ghost use Rattle.model.specs.Console.{sizes as sizesOf};
+ghost use Rattle.table.specs.Lent.{lent, LentSound};
+ghost use Rattle.plan.specs.Shares.{TopsWithin, DuesBefore, DuesAfter};
+use model::plan::Action;
+use model::plan::Plan;
+use model::table::Header;
+use sizes::size_refusal;
+use table::check::due_below;
+use table::read::bin_count;
+
+// The number of the first of rules 1 to 5 that the growth breaks, or 0.
+pub fn growth_refusal(
+    h: Header,
+    tops: &[u32],
+    ends: &[u32],
+    blocks: &[u32],
+    adjustments: &[u32],
+    buckets: u32,
+    bins: u32,
+) -> u32
+    requires { ⌜ LentSound h (now tops) (now ends) (now blocks) (now adjustments) ⌝ }
+    ensures { λ r.
+        ⌜
+        r
+        ≡ first
+        (growthTests
+        (lent h (now (tops .entry)) (now (ends .entry)) (now (blocks .entry)) (now (adjustments .entry)))
+        (sizesOf buckets bins))
+        ⌝ }
+{
+    let refusal = size_refusal(buckets, bins);
+    if refusal != 0 {
+        return refusal;
+    }
+    if buckets < h.buckets {
+        return 3;
+    }
+    let old = bin_count(h, tops, ends, blocks, adjustments);
+    if bins < old {
+        return 3;
+    }
+    if old < bins {
+        if h.block_count == 65 {
+            return 5;
+        }
+        return 0;
+    }
+    if buckets == h.buckets {
+        return 4;
+    }
+    0
+}
+
+// The number of blocks after the growth: one more if there are more bins.
+pub fn blocks_after(
+    h: Header,
+    tops: &[u32],
+    ends: &[u32],
+    blocks: &[u32],
+    adjustments: &[u32],
+    buckets: u32,
+    bins: u32,
+) -> u32
+    requires { ⌜ LentSound h (now tops) (now ends) (now blocks) (now adjustments) ⌝ }
+    ensures { λ r.
+        ⌜
+        r
+        ≡ length
+        (newTops
+        (lent h (now (tops .entry)) (now (ends .entry)) (now (blocks .entry)) (now (adjustments .entry)))
+        (sizesOf buckets bins))
+        ⌝ }
+{
+    let old = bin_count(h, tops, ends, blocks, adjustments);
+    if old < bins {
+        return h.block_count + 1;
+    }
+    h.block_count
+}
+
+// What each of the first `count` blocks is due in a map of the given sizes; 0 past them.
+fn block_dues(tops: &[u32], count: usize, buckets: u32, bins: u32) -> [u32; 65]
+    requires { ⌜ TopsWithin (now tops) count bins ⌝ }
+    ensures { λ r.
+        ⌜ ((j : ℕ) → j < 65 → getD r j 0 ≡ dueOfBlock (sizesOf buckets bins) (take count (now (tops .entry))) j) ⌝ }
+{
+    let quotient = buckets / bins;
+    let remainder = buckets % bins;
+    let mut dues = [0u32; 65];
+    let mut below: u32 = 0;
+    let mut j: usize = 0;
+    while j < count {
+        let through = due_below(quotient, remainder, tops[j]);
+        dues[j] = through - below;
+        below = through;
+        j += 1;
+    }
+    dues
+}
+
+// What each block has: a block of a sound table has its due.
+pub fn dues_before(
+    h: Header,
+    tops: &[u32],
+    ends: &[u32],
+    blocks: &[u32],
+    adjustments: &[u32],
+) -> [u32; 65]
+    requires { ⌜ LentSound h (now tops) (now ends) (now blocks) (now adjustments) ⌝ }
+    ensures { λ r.
+        ⌜ DuesBefore (lent h (now (tops .entry)) (now (ends .entry)) (now (blocks .entry)) (now (adjustments .entry))) r ⌝ }
+{
+    let bins = bin_count(h, tops, ends, blocks, adjustments);
+    block_dues(tops, h.block_count as usize, h.buckets, bins)
+}
+
+// What each block is due after the growth: the new one what the old bins leave.
+pub fn dues_after(
+    h: Header,
+    tops: &[u32],
+    ends: &[u32],
+    blocks: &[u32],
+    adjustments: &[u32],
+    buckets: u32,
+    bins: u32,
+) -> [u32; 65]
+    requires { ⌜ LentSound h (now tops) (now ends) (now blocks) (now adjustments) ⌝ }
+    requires { ⌜ first (growthTests (lent h (now tops) (now ends) (now blocks) (now adjustments)) (sizesOf buckets bins)) ≡ 0 ⌝ }
+    ensures { λ r.
+        ⌜
+        DuesAfter
+        (lent h (now (tops .entry)) (now (ends .entry)) (now (blocks .entry)) (now (adjustments .entry)))
+        (sizesOf buckets bins)
+        r
+        ⌝ }
+{
+    let old = bin_count(h, tops, ends, blocks, adjustments);
+    let mut dues = block_dues(tops, h.block_count as usize, buckets, bins);
+    if old < bins {
+        dues[h.block_count as usize] = buckets - due_below(buckets / bins, buckets % bins, old);
+    }
+    dues
+}
+
+// Whether some old block is due less than it has, from the dues before and after the growth.
+pub fn some_fall(
+    h: Header,
+    tops: &[u32],
+    ends: &[u32],
+    blocks: &[u32],
+    adjustments: &[u32],
+    buckets: u32,
+    bins: u32,
+    olds: &[u32; 65],
+    dues: &[u32; 65],
+) -> bool
+    requires { ⌜ LentSound h (now tops) (now ends) (now blocks) (now adjustments) ⌝ }
+    requires { ⌜ DuesBefore (lent h (now tops) (now ends) (now blocks) (now adjustments)) (now olds) ⌝ }
+    requires { ⌜ DuesAfter (lent h (now tops) (now ends) (now blocks) (now adjustments)) (sizesOf buckets bins) (now dues) ⌝ }
+    ensures { λ r.
+        ⌜
+        r
+        ≡ someFall
+        (lent h (now (tops .entry)) (now (ends .entry)) (now (blocks .entry)) (now (adjustments .entry)))
+        (sizesOf buckets bins)
+        ⌝ }
+{
+    let mut j: usize = 0;
+    while j < h.block_count as usize {
+        if dues[j] < olds[j] {
+            return true;
+        }
+        j += 1;
+    }
+    false
+}
+
+// The plan for an interval whose block is due `due`, where `moved` buckets have moved before it. It does not depend on which
+// block that is.
+pub fn plan_interval(due: u32, start: u32, end: u32, adjustment: u32, moved: u32) -> Plan
+    requires { ⌜ (adjustment ≤ start) × (start < end) × (moved ≤ start) ⌝ }
+    ensures { λ r. ⌜ ((block : ℕ) → r ≡ plan due start (interval end block adjustment) moved) ⌝ }
+{
+    if end - adjustment <= due {
+        return Plan {
+            action: Action::Stay,
+            moved,
+        };
+    }
+    if due <= start - adjustment {
+        return Plan {
+            action: Action::Move {
+                adjustment: start - moved,
+            },
+            moved: moved + (end - start),
+        };
+    }
+    let bucket = due + adjustment;
+    Plan {
+        action: Action::Split {
+            bucket,
+            adjustment: bucket - moved,
+        },
+        moved: moved + (end - bucket),
+    }
+}
+
+// The plan for old interval i, which starts at `start`, where `moved` buckets have moved before it.
+pub fn plan_at(
+    h: Header,
+    tops: &[u32],
+    ends: &[u32],
+    blocks: &[u32],
+    adjustments: &[u32],
+    buckets: u32,
+    bins: u32,
+    dues: &[u32; 65],
+    i: usize,
+    start: u32,
+    moved: u32,
+) -> Plan
+    requires { ⌜ LentSound h (now tops) (now ends) (now blocks) (now adjustments) ⌝ }
+    requires { ⌜ DuesAfter (lent h (now tops) (now ends) (now blocks) (now adjustments)) (sizesOf buckets bins) (now dues) ⌝ }
+    requires { ⌜ (i < h .«interval_count») × (start ≡ entryBefore (now ends) i) × (moved ≤ start) ⌝ }
+    ensures { λ r.
+        ⌜
+        r
+        ≡ planFor
+        (lent h (now (tops .entry)) (now (ends .entry)) (now (blocks .entry)) (now (adjustments .entry)))
+        (sizesOf buckets bins)
+        start
+        (interval (getD (now (ends .entry)) i 0) (getD (now (blocks .entry)) i 0) (getD (now (adjustments .entry)) i 0))
+        moved
+        ⌝ }
+{
+    plan_interval(
+        dues[blocks[i] as usize],
+        start,
+        ends[i],
+        adjustments[i],
+        moved,
+    )
+}

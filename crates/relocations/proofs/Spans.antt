@@ -1,0 +1,310 @@
+-- Laws of slots, of rows written into a buffer, and of a page filled part by part. Assumes nothing.
+use Prim.Native.Nat.{ℕ, suc, _+_, _-_, _*_, _/_, _%_, _^_, min, _≤_, _<_}
+use mathlib.Core.Path.{_≡_, refl, sym, _∙_, ap, ap₂}
+use mathlib.Core.Logic.{⊎-elim}
+use mathlib.Core.List.{List, [], _∷_, _++_, append-nil, append-assoc}
+use native.Mathlib.Nat.{mul-add-mod-self-right, mod-eq-of-lt, mul-add-div-right, div-eq-of-lt, add-zero}
+use native.Mathlib.Omega.{arith}
+use lib.ListN.{length, take, drop, length-append, length-drop, take-append-drop}
+use lib.Seq.{sets, sets-eq, length-take-le, take-at, drop-append-add, drop-drop}
+use Rattle.model.specs.Basics.{from, joined}
+use Rattle.model.specs.Table.{over}
+use Rattle.model.specs.Relocations.{page}
+use Rattle.model.proofs.Counts.{below-or}
+use Rattle.model.proofs.Tables.{length-from, from-append, length-over}
+use Rattle.model.proofs.Rows.{joined-append}
+use Rattle.model.proofs.Pages.{Fives, fives-length, fives-page, fives-from, page-length, page-none, page-append, page-from}
+use Rattle.relocations.specs.Spans.{placedRow, withRows, paged, Places, Slotted}
+use Rattle.relocations.specs.declared.Placing.{Placing}
+use Rattle.relocations.specs.declared.Slot.{Slot}
+
+-- SLOTS
+
+module _ (d rank : ℕ) (s : Slot) (h : Slotted d rank s) where
+  slot-bin : s .bin ≡ rank % d
+  slot-bin =
+      sym (ap (λ r. r % d) (sym (h .whole)) ∙ mul-add-mod-self-right (s .position) d (s .bin) ∙ mod-eq-of-lt (h .within))
+
+  slot-position : s .position ≡ rank / d
+  slot-position =
+      omega (
+        arith,
+        ap (λ r. r / d) (h .whole),
+        mul-add-div-right {m = d} (omega (arith, h .within)) (s .position) (s .bin),
+        div-eq-of-lt (h .within),
+      )
+
+-- the slot of a bucket below another has a next one
+pub slot-next
+    : (d x adjustment end : ℕ) (s : Slot) → Slotted d (x - adjustment) s → x < end → end < 2 ^ 32
+    → (s .bin < d) × (s .position * d + s .bin + 1 < 2 ^ 32)
+slot-next d x adjustment end s h l fits = (h .within, omega (arith, h .whole))
+
+-- the row of a bucket from its two slots
+pub row-slots
+    : (old new : Placing) (x : ℕ) (s s′ : Slot)
+    → Slotted (old .bins) (x - old .adjustment) s → Slotted (new .bins) (x - new .adjustment) s′
+    → x ∷ (old .first + s .bin) ∷ s .position ∷ (new .first + s′ .bin) ∷ s′ .position ∷ [] ≡ placedRow old new x
+unfolding placedRow
+row-slots old new x s s′ h h′ =
+    rw (slot-bin _ _ s h, slot-position _ _ s h, slot-bin _ _ s′ h′, slot-position _ _ s′ h′)
+
+-- what places a bucket places the later ones
+pub places-more : (p : Placing) (x n : ℕ) → Places p x → Places p (x + n)
+places-more p x n h = record { some = h .some; fits = h .fits; ranked = omega (arith, h .ranked) }
+
+-- ROWS IN A BUFFER
+
+pub with-none : (at : ℕ) (buffer : List ℕ) → withRows at [] buffer ≡ buffer
+unfolding withRows joined
+with-none at buffer = rw (add-zero at, append-nil (take (5 * at) buffer)) (take-append-drop (5 * at) buffer)
+
+module _ (at : ℕ) (rs : List (List ℕ)) (buffer : List ℕ) (fives : Fives rs) (fits : 5 * (at + length rs) ≤ length buffer) where
+  -- what stands up to their end
+  front : length (take (5 * at) buffer ++ joined rs) ≡ 5 * (at + length rs)
+  front =
+      omega (
+        arith,
+        length-append (take (5 * at) buffer) (joined rs),
+        length-take-le (5 * at) buffer (omega arith),
+        fives-length rs fives,
+      )
+
+  pub with-length : length (withRows at rs buffer) ≡ length buffer
+  unfolding withRows
+  with-length =
+      omega (
+        arith,
+        front,
+        length-append (take (5 * at) buffer ++ joined rs) (drop (5 * (at + length rs)) buffer),
+        length-drop (5 * (at + length rs)) buffer,
+      )
+
+  -- one row more
+  pub with-more
+      : (r : List ℕ) → length r ≡ 5 → 5 * (at + suc (length rs)) ≤ length buffer
+      → sets (withRows at rs buffer) (5 * (at + length rs)) r ≡ withRows at (rs ++ (r ∷ [])) buffer
+  unfolding withRows joined
+  with-more r five room =
+      let P = take (5 * at) buffer ++ joined rs in
+      let Q = drop (5 * (at + length rs)) buffer in
+      let i = 5 * (at + length rs) in
+      let past : i + length r ≡ length P + 5 = omega (arith, front) in
+      let last : i + 5 ≡ 5 * (at + length (rs ++ (r ∷ []))) = omega (arith, length-append rs (r ∷ [])) in
+      let left : take i (P ++ Q) ++ r ≡ take (5 * at) buffer ++ joined (rs ++ (r ∷ [])) =
+      ap (λ l. l ++ r) (take-at P Q i front)
+      ∙ append-assoc (take (5 * at) buffer) (joined rs) r
+      ∙ ap (λ l. take (5 * at) buffer ++ l)
+      (sym (joined-append rs (r ∷ []) ∙ ap (λ l. joined rs ++ l) (append-nil r))) in
+      let right : drop (i + length r) (P ++ Q) ≡ drop (5 * (at + length (rs ++ (r ∷ [])))) buffer =
+      ap (λ n. drop n (P ++ Q)) past
+      ∙ drop-append-add P Q 5
+      ∙ drop-drop 5 i buffer
+      ∙ ap (λ n. drop n buffer) last in
+      sets-eq r (P ++ Q) i (omega (arith, length-append P Q, front, length-drop i buffer))
+      ∙ ap₂ (λ l m. l ++ m) left right
+
+-- A PAGE FILLED PART BY PART
+
+-- rows behind those that begin a buffer
+behind
+    : (rs ss : List (List ℕ)) (k : ℕ) (old : List ℕ) → Fives rs → Fives ss → length rs ≡ k
+    → withRows k ss (over (joined rs) old) ≡ over (joined (rs ++ ss)) old
+unfolding withRows over
+behind rs ss k old f g e =
+    let P = joined rs in
+    let Q = drop (length P) old in
+    let whole = fives-length rs f in
+    let more = fives-length ss g in
+    let past : 5 * (k + length ss) ≡ length P + length (joined ss) = omega arith in
+    let joint = joined-append rs ss in
+    let last : length P + length (joined ss) ≡ length (joined (rs ++ ss)) =
+    omega (arith, ap length joint, length-append P (joined ss)) in
+    ap₂ (λ l m. l ++ m)
+    (ap (λ l. l ++ joined ss) (take-at P Q (5 * k) (omega arith)) ∙ sym joint)
+    (ap (λ n. drop n (P ++ Q)) past
+    ∙ drop-append-add P Q (length (joined ss))
+    ∙ drop-drop (length (joined ss)) (length P) old
+    ∙ ap (λ n. drop n old) last)
+
+-- a page of some rows, and then what is left of it of the rows behind them
+page-filled
+    : (q : ℕ) (rs ss : List (List ℕ)) (old : List ℕ) → Fives rs → Fives ss
+    → withRows (length rs - q) (page (q - length rs) (length old - 5 * (length rs - q)) ss) (over (joined (page q (length old) rs)) old)
+    ≡ over (joined (page q (length old) (rs ++ ss))) old
+page-filled q rs ss old f g =
+    let A = page q (length old) rs in
+    let B = page (q - length rs) (length old - 5 * (length rs - q)) ss in
+    let both = page-append q (length old) rs ss in
+    ⊎-elim
+    (λ l.
+    let none : B ≡ [] = page-none (q - length rs) _ ss (omega arith) in
+    ap (λ b. withRows (length rs - q) b (over (joined A) old)) none
+    ∙ with-none (length rs - q) (over (joined A) old)
+    ∙ ap (λ l. over (joined l) old) (sym (append-nil A) ∙ ap (λ b. A ++ b) (sym none) ∙ sym both))
+    (λ l.
+    behind A B (length rs - q) old (fives-page q (length old) rs f) (fives-page _ _ ss g)
+    (omega (arith, page-length q (length old) rs))
+    ∙ ap (λ l. over (joined l) old) (sym both))
+    (below-or (length old / 5) (length rs - q))
+
+-- a page over a buffer is as long as the buffer
+pub page-fits
+    : (q : ℕ) (rs : List (List ℕ)) (old : List ℕ) → Fives rs → length (over (joined (page q (length old) rs)) old) ≡ length old
+page-fits q rs old f =
+    length-over (joined (page q (length old) rs)) old
+    (omega (arith, fives-length (page q (length old) rs) (fives-page q (length old) rs f), page-length q (length old) rs))
+
+pub paged-behind
+    : (q : ℕ) (rs ss : List (List ℕ)) (old : List ℕ) → Fives rs → Fives ss
+    → paged q (length rs) ss (over (joined (page q (length old) rs)) old) ≡ over (joined (page q (length old) (rs ++ ss))) old
+unfolding paged
+paged-behind q rs ss old f g =
+    ap
+    (λ n.
+    withRows (length rs - q) (page (q - length rs) (n - 5 * (length rs - q)) ss) (over (joined (page q (length old) rs)) old))
+    (page-fits q rs old f)
+    ∙ page-filled q rs ss old f g
+
+-- A PART CUT TO THE PAGE
+
+-- the rows that fit behind `at` others
+free : (n at : ℕ) → (n - 5 * at) / 5 ≡ n / 5 - at
+free n at = omega arith
+
+less-twice : (e p skip : ℕ) → e - p - skip ≡ e - (p + skip)
+less-twice e p skip = omega arith
+
+all-left : (a b : ℕ) → b ≤ a → min a b ≡ b
+all-left a b l = omega arith
+
+pub room-fits : (n at c : ℕ) → at < n / 5 → (c ≤ c + (n / 5 - at)) × (5 * (at + (c + (n / 5 - at) - c)) ≤ n)
+room-fits n at c l = omega arith
+
+some-left : (a b c : ℕ) → a < b → min a b ≡ c + a - c
+some-left a b c l = omega arith
+
+module _ (f : ℕ → List ℕ) (p e q w : ℕ) (buffer : List ℕ) where
+  -- what the page has of it, in all
+  paged-some
+      : (k : ℕ) → min ((length buffer - 5 * (w - q)) / 5) (e - p - (q - w)) ≡ k
+      → paged q w (from f p (e - p)) buffer ≡ withRows (w - q) (from f (p + (q - w)) k) buffer
+  unfolding paged
+  paged-some k same =
+      ap (λ l. withRows (w - q) l buffer) (page-from (q - w) (length buffer - 5 * (w - q)) f p (e - p))
+      ∙ ap (λ k. withRows (w - q) (from f (p + (q - w)) k) buffer) same
+
+  -- none if the page starts past it, or is full
+  pub paged-past : e - p ≤ q - w → buffer ≡ paged q w (from f p (e - p)) buffer
+  unfolding from
+  paged-past l = sym (paged-some 0 (omega arith) ∙ with-none (w - q) buffer)
+
+  pub paged-full : length buffer / 5 ≤ w - q → buffer ≡ paged q w (from f p (e - p)) buffer
+  unfolding from
+  paged-full l = sym (paged-some 0 (omega arith) ∙ with-none (w - q) buffer)
+
+  module _ (at skip : ℕ) (placed : at ≡ w - q) (skipped : skip ≡ q - w) where
+    -- all that is left of it, or as much as there is room for
+    paged-cut
+        : (k : ℕ) → min (length buffer / 5 - at) (e - (p + skip)) ≡ k
+        → withRows at (from f (p + skip) k) buffer ≡ paged q w (from f p (e - p)) buffer
+    paged-cut k same =
+        let whole = ap₂ min (free (length buffer) at) (less-twice e p skip) ∙ same in
+        rw (placed, skipped) (sym (paged-some k (rw (placed, skipped) at whole)))
+
+    pub paged-left
+        : e - (p + skip) ≤ length buffer / 5 - at
+        → withRows at (from f (p + skip) (e - (p + skip))) buffer ≡ paged q w (from f p (e - p)) buffer
+    paged-left l = paged-cut (e - (p + skip)) (all-left _ _ l)
+
+    pub paged-room
+        : length buffer / 5 - at < e - (p + skip)
+        → withRows at (from f (p + skip) (p + skip + (length buffer / 5 - at) - (p + skip))) buffer
+        ≡ paged q w (from f p (e - p)) buffer
+    paged-room l = paged-cut _ (some-left _ _ (p + skip) l)
+
+-- A SPAN, ROW BY ROW
+
+-- the rows of the buckets from `bucket` up to x are written, and `here` and `there` are the slots of x
+pub record Spanning
+    (old new : Placing) (bucket end at : ℕ) (rows₀ rows : List ℕ) (here there : Slot) (x entry : ℕ) : Type 0 where
+  pub after : bucket ≤ x
+  pub within : x ≤ end
+  pub oldSlot : Slotted (old .bins) (x - old .adjustment) here
+  pub newSlot : Slotted (new .bins) (x - new .adjustment) there
+  pub entries : entry ≡ 5 * (at + (x - bucket))
+  pub filled : rows ≡ withRows at (from (placedRow old new) bucket (x - bucket)) rows₀
+
+pub five-numbers : (old new : Placing) (x : ℕ) → length (placedRow old new x) ≡ 5
+unfolding placedRow
+five-numbers old new x = refl
+
+module _ (old new : Placing) (bucket end at : ℕ) (rows₀ : List ℕ) (fits : 5 * (at + (end - bucket)) ≤ length rows₀) where
+  pub spanning-starts
+      : (here there : Slot) → bucket ≤ end → Slotted (old .bins) (bucket - old .adjustment) here
+      → Slotted (new .bins) (bucket - new .adjustment) there
+      → Spanning old new bucket end at rows₀ rows₀ here there bucket (5 * at)
+  unfolding from
+  spanning-starts here there le h h′ =
+      let none : bucket - bucket ≡ 0 = omega arith in
+      record {
+        after = omega arith;
+        within = le;
+        oldSlot = h;
+        newSlot = h′;
+        entries = omega arith;
+        filled = sym (rw none (with-none at rows₀));
+      }
+
+  module _
+      (rows : List ℕ) (here there : Slot) (x entry : ℕ) (s : Spanning old new bucket end at rows₀ rows here there x entry) where
+    pub spanning-length : length rows ≡ length rows₀
+    spanning-length =
+        let count = length-from (placedRow old new) bucket (x - bucket) in
+        ap length (s .filled)
+        ∙ with-length at (from (placedRow old new) bucket (x - bucket)) rows₀
+        (fives-from (placedRow old new) (five-numbers old new) bucket (x - bucket))
+        (omega (arith, s .within))
+
+    -- there is room for the next row
+    pub spanning-room : x < end → (entry + 5 ≤ length rows) × (entry + 5 ≤ length rows₀)
+    spanning-room l = omega (arith, s .entries, s .after, spanning-length)
+
+    -- the next row
+    pub spanning-more
+        : (rows′ : List ℕ) (here′ there′ : Slot) → x < end → old .adjustment ≤ bucket → new .adjustment ≤ bucket
+        → rows′ ≡ sets rows entry (x ∷ (old .first + here .bin) ∷ here .position ∷ (new .first + there .bin) ∷ there .position ∷ [])
+        → Slotted (old .bins) (here .position * old .bins + here .bin + 1) here′
+        → Slotted (new .bins) (there .position * new .bins + there .bin + 1) there′
+        → Spanning old new bucket end at rows₀ rows′ here′ there′ (x + 1) (entry + 5)
+    unfolding from
+    spanning-more rows′ here′ there′ l o n e h h′ =
+        let rs = from (placedRow old new) bucket (x - bucket) in
+        let count = length-from (placedRow old new) bucket (x - bucket) in
+        let next : x + 1 - bucket ≡ x - bucket + 1 = omega (arith, s .after) in
+        let this : bucket + (x - bucket) ≡ x = omega (arith, s .after) in
+        let here-entry : entry ≡ 5 * (at + length rs) = omega (arith, s .entries) in
+        let older : here .position * old .bins + here .bin + 1 ≡ x + 1 - old .adjustment = omega (arith, s .oldSlot .whole, s .after) in
+        let newer : there .position * new .bins + there .bin + 1 ≡ x + 1 - new .adjustment = omega (arith, s .newSlot .whole, s .after) in
+        record {
+          after = omega (arith, s .after);
+          within = omega arith;
+          oldSlot = rw older at h;
+          newSlot = rw newer at h′;
+          entries = omega (arith, s .entries, s .after);
+          filled =
+              e
+              ∙ ap (sets rows entry) (row-slots old new x here there (s .oldSlot) (s .newSlot))
+              ∙ ap₂ (λ l i. sets l i (placedRow old new x)) (s .filled) here-entry
+              ∙ with-more at rs rows₀ (fives-from (placedRow old new) (five-numbers old new) bucket (x - bucket)) (omega arith)
+              (placedRow old new x) (five-numbers old new x) (omega arith)
+              ∙ ap (λ y. withRows at (rs ++ (placedRow old new y ∷ [])) rows₀) (sym this)
+              ∙ ap (λ l. withRows at l rows₀) (from-append (placedRow old new) bucket (x - bucket) 1)
+              ∙ ap (λ m. withRows at (from (placedRow old new) bucket m) rows₀) (sym next);
+        }
+
+    -- after the last
+    pub spanning-ends : end ≤ x → rows ≡ withRows at (from (placedRow old new) bucket (end - bucket)) rows₀
+    spanning-ends l =
+        let same : x ≡ end = omega (arith, s .within) in
+        s .filled ∙ ap (λ y. withRows at (from (placedRow old new) bucket (y - bucket)) rows₀) same

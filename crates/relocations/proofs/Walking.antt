@@ -1,0 +1,297 @@
+-- Laws of the walk over the old intervals: each adds the rows of what it moves. Assumes nothing.
+use Prim.Native.Nat.{ℕ, suc, _+_, _-_, _*_, _/_, _%_, _^_, min, _≤_, _<_}
+use mathlib.Core.Path.{_≡_, refl, sym, _∙_, ap, subst}
+use mathlib.Core.Logic.{⊎-elim}
+use mathlib.Core.Bool.{true}
+use mathlib.Core.List.{List, [], _++_}
+use native.Mathlib.Nat.{le-refl}
+use native.Mathlib.Numerals.{add-one}
+use native.Mathlib.Omega.{arith}
+use lib.ListN.{length, getD, length-append}
+use Rattle.model.specs.Basics.{from, joined, before}
+use Rattle.model.specs.Table.{Shape, Interval, Arrays, table, bins, shape, over}
+use Rattle.model.specs.Refusal.{first}
+use Rattle.model.specs.Sound.{Sound}
+use Rattle.model.specs.Expansion.{dueAfter, someFall, plan, planFor, expanded}
+use Rattle.model.specs.Relocations.{row, page}
+use Rattle.model.specs.Relocations
+use Rattle.model.specs.Calls.{growthTests}
+use Rattle.model.specs.Balance.{most, least}
+use Rattle.model.specs.declared.table.Header.{Header}
+use Rattle.model.specs.declared.plan.Plan.{Plan}
+use Rattle.model.proofs.Counts.{below-or}
+use Rattle.model.proofs.Intervals.{before-mono}
+use Rattle.model.proofs.Tables.{length-from, from-ext, lentInterval}
+use Rattle.model.proofs.Listed.{size-most}
+use Rattle.model.proofs.Wells.{adjustment-most, sound-well}
+use Rattle.model.proofs.Growths.{accepted, some-more}
+use Rattle.model.proofs.Drained.{drainedBlock, plan-stay, plan-move, plan-split}
+use Rattle.model.proofs.Rows.{rows-least, rowsBelow, rowsBefore, lentFirst, lentBins, Cut, end-within, rows-size, part-rows, part-row}
+use Rattle.model.proofs.Pages.{Fives, fives-from, fives-rows, page-past}
+use Rattle.relocations.specs.Spans.{placing, placedRow, partRows, paged, Part, Acts}
+use Rattle.relocations.specs.declared.Placing.{Placing}
+use Rattle.relocations.proofs.Spans.{page-fits, paged-behind, five-numbers}
+
+-- HOW MANY ROWS
+
+-- max(0, B - T), from n and T
+pub rows-counted
+    : (h : Header) (a : Arrays) (s : Shape) → Sound h a → first (growthTests (table h a) s) ≡ 0 → (n m r : ℕ)
+    → n ≡ bins (table h a) → m ≡ n * (s .buckets / s .bins) + min n (s .buckets % s .bins) → r ≡ h .buckets - m
+    → r ≡ length (Relocations.rows (table h a) (expanded (table h a) s))
+unfolding least most shape table
+rows-counted h a s sound ok n m r e f g = rw (g, f, e) (sym (rows-least h a s sound ok))
+
+-- A PLAN AS A CUT
+
+-- an interval cut at bucket p, where w buckets moved before: the plan moves what comes from p on
+record Planned (due start : ℕ) (i : Interval) (w p : ℕ) : Type 0 where
+  cut : Cut due start i p
+  moved : plan due start i w .moved ≡ w + (i .end - p)
+  rows
+      : (old : Placing) (f d : ℕ)
+      → partRows (plan due start i w .action) start (i .end) old f d ≡ from (placedRow old (placing f d (p - w))) p (i .end - p)
+  acts
+      : (old : Placing) (f d : ℕ) → Part old (placing f d (p - w)) p (i .end) w
+      → Acts (plan due start i w .action) start (i .end) old f d w
+
+planned
+    : (due start : ℕ) (i : Interval) (w : ℕ) → start < i .end → i .adjustment ≤ start
+    → (p : ℕ) × Planned due start i w p
+unfolding partRows from
+planned due start i w some low =
+    ⊎-elim
+    (λ l.
+    ⊎-elim
+    (λ k.
+    let same = plan-split due start i w l k in (
+      due + i .adjustment,
+      record {
+        cut = record { after = omega arith; within = omega arith; kept = λ x b e. e; gone = λ x b e. b };
+        moved = ap (λ v. v .moved) same;
+        rows = λ old f d. rw same refl;
+        acts = λ old f d h. rw same h;
+      },
+    ))
+    (λ k.
+    let same = plan-move due start i w l k in (
+      start,
+      record {
+        cut =
+            record {
+              after = omega arith;
+              within = omega arith;
+              kept = λ x b e. absurd (omega arith);
+              gone = λ x b e. omega arith;
+            };
+        moved = ap (λ v. v .moved) same;
+        rows = λ old f d. rw same refl;
+        acts = λ old f d h. rw same h;
+      },
+    ))
+    (below-or (start - i .adjustment) due))
+    (λ l.
+    let same = plan-stay due start i w l in
+    let none : i .end - i .end ≡ 0 = omega arith in (
+      i .end,
+      record {
+        cut =
+            record {
+              after = omega arith;
+              within = omega arith;
+              kept = λ x b e. omega arith;
+              gone = λ x b e. absurd (omega arith);
+            };
+        moved = ap (λ v. v .moved) same ∙ omega arith;
+        rows = λ old f d. rw (same, none) refl;
+        acts = λ old f d h. rw same tt;
+      },
+    ))
+    (below-or due (i .end - i .adjustment))
+
+-- THE WALK
+
+-- where the walk has come to interval i, which starts at `start`: the rows of the buckets before it, `moved` of them, are on the page
+pub record Walking (h : Header) (a : Arrays) (s : Shape) (q : ℕ) (rows₀ rows : List ℕ) (i start moved : ℕ) : Type 0 where
+  pub within : i ≤ h .«interval_count»
+  pub starts : start ≡ before (a .ends) i
+  pub counted : moved ≡ rowsBefore h a s i
+  pub below : moved ≤ start
+  pub filled : rows ≡ over (joined (page q (length rows₀) (rowsBelow (table h a) (expanded (table h a) s) start))) rows₀
+
+-- how the buckets of interval i are placed
+abbrev pub lentPlacing : Arrays → ℕ → Placing
+lentPlacing a i =
+    placing (lentFirst a (getD (a .blocks) i 0)) (lentBins a (getD (a .blocks) i 0)) (getD (a .adjustments) i 0)
+
+module _
+    (h : Header) (a : Arrays) (s : Shape) (sound : Sound h a) (ok : first (growthTests (table h a) s) ≡ 0)
+    (falls : someFall (table h a) s ≡ true) where
+  -- the sizes of the new block
+  new-bins : (bins (table h a) < s .bins) × (s .bins < 2 ^ 32)
+  new-bins = (
+    some-more (table h a) s (sound-well h a sound) (accepted (table h a) s ok) falls,
+    omega (arith, accepted (table h a) s ok .binLimit),
+  )
+
+  -- a top is at most n
+  top-within : (j : ℕ) → j < h .«block_count» → getD (a .tops) j 0 < 2 ^ 32
+  unfolding before
+  top-within j l =
+      omega (
+        arith,
+        before-mono (a .tops) (h .«block_count») (sound .topsRise) (h .«block_count») (suc j) l (le-refl _),
+        sound .binLimit,
+      )
+
+  -- interval i: its start, end and block's due, the rows before its own, those of the buckets below m, and those of its plan
+  module _ (i : ℕ) (l : i < h .«interval_count») where
+    abbrev start : ℕ
+    start = before (a .ends) i
+
+    abbrev end : ℕ
+    end = getD (a .ends) i 0
+
+    abbrev due : ℕ
+    due = dueAfter (table h a) s (getD (a .blocks) i 0)
+
+    abbrev moved : ℕ
+    moved = rowsBefore h a s i
+
+    abbrev below : ℕ → List (List ℕ)
+    below m = rowsBelow (table h a) (expanded (table h a) s) m
+
+    abbrev parted : List (List ℕ)
+    parted =
+        partRows (plan due start (lentInterval a i) moved .action) start end (lentPlacing a i)
+        (bins (table h a))
+        (s .bins - bins (table h a))
+
+    here : (p : ℕ) × Planned due start (lentInterval a i) moved p
+    here = planned due start (lentInterval a i) moved (sound .endsRise i l) (adjustment-most h a sound i l)
+
+    -- there are no more rows than buckets
+    rows-few : (m : ℕ) → m ≤ end → length (below m) ≤ m
+    rows-few m k =
+        omega (
+          arith,
+          end-within h a sound i l,
+          rows-size h a s sound ok falls m (omega (arith, end-within h a sound i l)),
+          size-most (drainedBlock (table h a) s) m (length (table h a .tops)),
+        )
+
+    -- what its plan moves is placed
+    part-here
+        : Part (lentPlacing a i) (placing (bins (table h a)) (s .bins - bins (table h a)) (here .0 - moved)) (here .0) end moved
+    part-here =
+        let j = getD (a .blocks) i 0 in
+        let below = sound .blocksBelow i l in
+        let low = here .1 .cut .after in
+        let few = rows-few start (omega (arith, low, here .1 .cut .within)) in
+        record {
+          oldPlaces =
+              record {
+                some = omega (arith, sound .topsRise j below);
+                fits = omega (arith, sound .topsRise j below, top-within j below);
+                ranked = omega (arith, adjustment-most h a sound i l);
+              };
+          newPlaces =
+              record { some = omega (arith, new-bins); fits = omega (arith, new-bins); ranked = omega arith };
+          within = here .1 .cut .within;
+          ranked = omega arith;
+        }
+
+    -- what the plan asks of its parts, the rows that it adds, and how many
+    step-acts
+        : Acts (plan due start (lentInterval a i) moved .action) start end (lentPlacing a i)
+        (bins (table h a))
+        (s .bins - bins (table h a))
+        moved
+    step-acts = here .1 .acts (lentPlacing a i) (bins (table h a)) (s .bins - bins (table h a)) part-here
+
+    step-fives : Fives parted
+    step-fives =
+        subst Fives (sym (here .1 .rows (lentPlacing a i) (bins (table h a)) (s .bins - bins (table h a))))
+        (fives-from (placedRow (lentPlacing a i) _) (five-numbers (lentPlacing a i) _) (here .0) (end - here .0))
+
+    step-rows : below end ≡ below start ++ parted
+    unfolding placedRow
+    step-rows =
+        part-rows h a s sound ok falls i (here .0) l (here .1 .cut)
+        ∙ ap (λ rs. below start ++ rs)
+        (from-ext (row (table h a) (expanded (table h a) s)) (placedRow (lentPlacing a i) _) (here .0) (end - here .0)
+        (λ x b e. part-row h a s sound ok falls i (here .0) l (here .1 .cut) x b (omega (arith, here .1 .cut .within)))
+        ∙ sym (here .1 .rows (lentPlacing a i) (bins (table h a)) (s .bins - bins (table h a))))
+
+    step-moved : plan due start (lentInterval a i) moved .moved ≡ length (below end)
+    step-moved =
+        omega (
+          arith,
+          here .1 .moved,
+          ap length step-rows,
+          length-append (below start) parted,
+          ap length (here .1 .rows (lentPlacing a i) (bins (table h a)) (s .bins - bins (table h a))),
+          length-from (placedRow (lentPlacing a i) (placing (bins (table h a)) (s .bins - bins (table h a)) (here .0 - moved)))
+              (here .0)
+              (end - here .0),
+        )
+
+  module _ (q : ℕ) (rows₀ : List ℕ) where
+    -- before the first interval
+    pub walking-starts : Walking h a s q rows₀ rows₀ 0 0 0
+    unfolding before joined from
+    walking-starts =
+        record {
+          within = omega arith;
+          starts = refl;
+          counted = refl;
+          below = omega arith;
+          filled = page-past q [] rows₀ (omega arith) .1;
+        }
+
+    module _ (rows : List ℕ) (i start moved : ℕ) (v : Walking h a s q rows₀ rows i start moved) where
+      pub walking-length : length rows ≡ length rows₀
+      walking-length = ap length (v .filled) ∙ page-fits q _ rows₀ (fives-rows (table h a) (expanded (table h a) s) 0 start)
+
+      at-end : h .«interval_count» ≤ i → i ≡ h .«interval_count»
+      at-end l = omega (arith, v .within)
+
+      -- after the last interval
+      pub walking-ends
+          : h .«interval_count» ≤ i
+          → rows ≡ over (joined (page q (length rows₀) (Relocations.rows (table h a) (expanded (table h a) s)))) rows₀
+      unfolding Relocations.rows table
+      walking-ends l =
+          let last : start ≡ h .buckets = omega (arith, v .starts, v .within, sound .lastEnd, ap (before (a .ends)) (at-end l)) in
+          v .filled
+          ∙ ap (λ m. over (joined (page q (length rows₀) (rowsBelow (table h a) (expanded (table h a) s) m))) rows₀) last
+
+      -- interval i, with its plan, its placing and the old number of bins as the code has them
+      module _
+          (l : i < h .«interval_count») (plan : Plan) (old : Placing) (n : ℕ)
+          (e : plan ≡ planFor (table h a) s start (lentInterval a i) moved) (f : old ≡ lentPlacing a i) (g : n ≡ bins (table h a)) where
+        -- what its rows ask
+        pub walking-acts : Acts (plan .action) start (getD (a .ends) i 0) old n (s .bins - n) moved
+        unfolding planFor
+        walking-acts = rw (e, f, g, v .starts, v .counted) (step-acts i l)
+
+        -- and the next interval, once they are written
+        pub walking-more
+            : (rows′ : List ℕ)
+            → rows′ ≡ paged q moved (partRows (plan .action) start (getD (a .ends) i 0) old n (s .bins - n)) rows
+            → Walking h a s q rows₀ rows′ (i + 1) (getD (a .ends) i 0) (plan .moved)
+        unfolding planFor before
+        walking-more rows′ same =
+            record {
+              within = omega arith;
+              starts = rw (add-one i) refl;
+              counted = rw (e, v .starts, v .counted, add-one i) (step-moved i l);
+              below = rw (e, v .starts, v .counted, step-moved i l) (rows-few i l (end i l) (le-refl _));
+              filled =
+                  same
+                  ∙ rw (e, f, g, v .filled, v .starts, v .counted)
+                  (paged-behind q (below i l (before (a .ends) i)) (parted i l) rows₀
+                  (fives-rows (table h a) (expanded (table h a) s) 0 (before (a .ends) i))
+                  (step-fives i l)
+                  ∙ ap (λ rs. over (joined (page q (length rows₀) rs)) rows₀) (sym (step-rows i l)));
+            }

@@ -1,0 +1,62 @@
+-- The rows of buckets that move together, and rows written into a lent buffer. Assumes nothing.
+use Prim.Native.Nat.{ℕ, _+_, _-_, _*_, _/_, _%_, _^_, _≤_, _<_}
+use mathlib.Core.List.{List, [], _∷_, _++_}
+use mathlib.Core.Path.{_≡_}
+use lib.ListN.{length, take, drop}
+use Rattle.model.specs.Basics.{from, joined}
+use Rattle.model.specs.Relocations.{page}
+use Rattle.model.specs.declared.plan.Action.{Action}
+use Rattle.model.specs.declared.plan.Action.the-variants.{Stay, Move, Split}
+use Rattle.relocations.specs.declared.Placing.{Placing}
+use Rattle.relocations.specs.declared.Slot.{Slot}
+
+abbrev pub placing : ℕ → ℕ → ℕ → Placing
+placing first bins adjustment = record { first = first; bins = bins; adjustment = adjustment }
+
+-- the row of bucket x, whose old place goes by `old` and its new one by `new`
+unfoldable pub placedRow : Placing → Placing → ℕ → List ℕ
+placedRow old new x =
+    x
+    ∷ (old .first + (x - old .adjustment) % old .bins)
+    ∷ ((x - old .adjustment) / old .bins)
+    ∷ (new .first + (x - new .adjustment) % new .bins)
+    ∷ ((x - new .adjustment) / new .bins)
+    ∷ []
+
+-- a buffer with rows written into it from row number `at` on; the rest is kept
+unfoldable pub withRows : ℕ → List (List ℕ) → List ℕ → List ℕ
+withRows at rs buffer = take (5 * at) buffer ++ joined rs ++ drop (5 * (at + length rs)) buffer
+
+-- the rows of an interval from `start` up to `end` whose action is given: what moves goes to the d bins from f on
+unfoldable pub partRows : Action → ℕ → ℕ → Placing → ℕ → ℕ → List (List ℕ)
+partRows Stay start end old f d = []
+partRows (Move c) start end old f d = from (placedRow old (placing f d c)) start (end - start)
+partRows (Split b c) start end old f d = from (placedRow old (placing f d c)) b (end - b)
+
+-- a buffer with those of the rows rs written into it that the page from order number q on has, where rs come after w others
+unfoldable pub paged : ℕ → ℕ → List (List ℕ) → List ℕ → List ℕ
+paged q w rs buffer = withRows (w - q) (page (q - w) (length buffer - 5 * (w - q)) rs) buffer
+
+-- what places buckets from x on: there is a bin, its numbers fit, and x has a rank
+pub record Places (p : Placing) (x : ℕ) : Type 0 where
+  pub some : 1 ≤ p .bins
+  pub fits : p .first + p .bins < 2 ^ 32
+  pub ranked : p .adjustment ≤ x
+
+-- the slot of a rank in a block of d bins
+pub record Slotted (d rank : ℕ) (s : Slot) : Type 0 where
+  pub within : s .bin < d
+  pub whole : s .position * d + s .bin ≡ rank
+
+-- buckets from p up to e that move, of which w have moved before
+pub record Part (old new : Placing) (p e w : ℕ) : Type 0 where
+  pub oldPlaces : Places old p
+  pub newPlaces : Places new p
+  pub within : p ≤ e
+  pub ranked : p - new .adjustment ≡ w
+
+-- an action of which the same holds
+abbrev pub Acts : Action → ℕ → ℕ → Placing → ℕ → ℕ → ℕ → Type 0
+Acts Stay start end old f d w = Unit {0}
+Acts (Move c) start end old f d w = Part old (placing f d c) start end w
+Acts (Split b c) start end old f d w = Part old (placing f d c) b end w

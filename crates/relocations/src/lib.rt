@@ -1,0 +1,387 @@
+// The move list: the rows of the buckets that a growth moves.
+ghost use Prim.Native.Nat.{ℕ, _+_, _-_, _*_, _^_, _<_, _≤_};
+ghost use mathlib.Core.Path.{_≡_};
+ghost use mathlib.Core.List.{[], _∷_};
+ghost use mathlib.Core.Bool.{true};
+ghost use lib.ListN.{length, getD};
+ghost use lib.Seq.{sets};
+ghost use Rattle.model.specs.Basics.{from, joined, before as entryBefore};
+ghost use Rattle.model.specs.Table.{over};
+ghost use Rattle.model.specs.Refusal.{first as firstOf};
+ghost use Rattle.model.specs.Expansion.{expanded, someFall};
+ghost use Rattle.model.specs.Relocations.{rows as rowsOf, page};
+ghost use Rattle.model.specs.Calls.{growthTests};
+ghost use Rattle.model.specs.Console.{sizes as sizesOf};
+ghost use Rattle.table.specs.Lent.{lent, LentSound};
+ghost use Rattle.plan.specs.Shares.{DuesAfter};
+ghost use Rattle.relocations.specs.Spans.{placing, placedRow, withRows, partRows, paged, Places, Slotted, Part, Acts};
+use model::plan::Action;
+use model::table::Header;
+use plan::dues_after;
+use plan::plan_at;
+use table::check::due_below;
+use table::read::before;
+use table::read::bin_count;
+
+// How the buckets of an interval are placed: the first bin and the number of bins of its block, and its rank adjustment.
+pub struct Placing {
+    pub first: u32,
+    pub bins: u32,
+    pub adjustment: u32,
+}
+
+// A place in a block: the bin, counted from the block's first, and the position.
+pub struct Slot {
+    pub bin: u32,
+    pub position: u32,
+}
+
+// The slot of a bucket.
+fn slot_of(placing: Placing, bucket: u32) -> Slot
+    requires { ⌜ Places placing bucket ⌝ }
+    ensures { λ r. ⌜ Slotted (placing .bins) (bucket - placing .adjustment) r ⌝ }
+{
+    let rank = bucket - placing.adjustment;
+    Slot {
+        bin: rank % placing.bins,
+        position: rank / placing.bins,
+    }
+}
+
+// The slot of the next rank: the next bin, and past the last bin the first one, a position higher.
+fn next_slot(bins: u32, slot: Slot) -> Slot
+    requires { ⌜ (slot .bin < bins) × (slot .position * bins + slot .bin + 1 < 2 ^ 32) ⌝ }
+    ensures { λ r. ⌜ Slotted bins (slot .position * bins + slot .bin + 1) r ⌝ }
+{
+    let bin = slot.bin + 1;
+    if bin < bins {
+        return Slot {
+            bin,
+            position: slot.position,
+        };
+    }
+    Slot {
+        bin: 0,
+        position: slot.position + 1,
+    }
+}
+
+// One row, from entry `at` on.
+fn write_row(
+    rows: &mut [u32],
+    at: usize,
+    bucket: u32,
+    old_bin: u32,
+    old_position: u32,
+    new_bin: u32,
+    new_position: u32,
+)
+    requires { ⌜ at + 5 ≤ length (now rows) ⌝ }
+    ensures { λ _.
+        ⌜
+        now (rows .exit)
+        ≡ sets (now (rows .entry)) at (bucket ∷ «old_bin» ∷ «old_position» ∷ «new_bin» ∷ «new_position» ∷ [])
+        ⌝ }
+{
+    rows[at] = bucket;
+    rows[at + 1] = old_bin;
+    rows[at + 2] = old_position;
+    rows[at + 3] = new_bin;
+    rows[at + 4] = new_position;
+}
+
+// The rows of the buckets from `bucket` up to `end`, from row number `at` on. From row to row the slots step; nothing is divided.
+fn write_span(old: Placing, new: Placing, bucket: u32, end: u32, at: usize, rows: &mut [u32])
+    requires { ⌜ Places old bucket × Places new bucket ⌝ }
+    requires { ⌜ (bucket ≤ end) × (5 * (at + (end - bucket)) ≤ length (now rows)) ⌝ }
+    ensures { λ _.
+        ⌜ now (rows .exit) ≡ withRows at (from (placedRow old new) bucket (end - bucket)) (now (rows .entry)) ⌝ }
+{
+    let mut here = slot_of(old, bucket);
+    let mut there = slot_of(new, bucket);
+    let mut x = bucket;
+    let mut entry = 5 * at;
+    while x < end {
+        write_row(
+            rows,
+            entry,
+            x,
+            old.first + here.bin,
+            here.position,
+            new.first + there.bin,
+            there.position,
+        );
+        here = next_slot(old.bins, here);
+        there = next_slot(new.bins, there);
+        x += 1;
+        entry += 5;
+    }
+}
+
+// How much a is above b; 0 where it is not.
+fn excess(a: u32, b: u32) -> u32
+    ensures { λ r. ⌜ r ≡ a - b ⌝ }
+{
+    if a < b {
+        return 0;
+    }
+    a - b
+}
+
+// The rows of the moved buckets from `bucket` up to `end`, as far as the page from order number `first` on has them. A bucket's
+// order number is its rank in the new block.
+fn write_part(old: Placing, new: Placing, bucket: u32, end: u32, first: u32, rows: &mut [u32])
+    requires { ⌜ Part old new bucket end (bucket - new .adjustment) ⌝ }
+    ensures { λ _.
+        ⌜
+        now (rows .exit)
+        ≡ paged first (bucket - new .adjustment) (from (placedRow old new) bucket (end - bucket)) (now (rows .entry))
+        ⌝ }
+{
+    let moved = bucket - new.adjustment;
+    let skip = excess(first, moved);
+    let at = excess(moved, first) as usize;
+    let room = rows.len() / 5;
+    if end - bucket <= skip {
+        return;
+    }
+    if room <= at {
+        return;
+    }
+    let start = bucket + skip;
+    let free = room - at;
+    if (end - start) as usize <= free {
+        write_span(old, new, start, end, at, rows);
+        return;
+    }
+    write_span(old, new, start, start + free as u32, at, rows)
+}
+
+// The rows of an interval whose action is given, where `moved` rows come before them.
+fn write_action(
+    action: Action,
+    start: u32,
+    end: u32,
+    old: Placing,
+    first_bin: u32,
+    bins: u32,
+    moved: u32,
+    first: u32,
+    rows: &mut [u32],
+)
+    requires { ⌜ Acts action start end old «first_bin» bins moved ⌝ }
+    ensures { λ _.
+        ⌜ now (rows .exit) ≡ paged first moved (partRows action start end old «first_bin» bins) (now (rows .entry)) ⌝ }
+{
+    match action {
+        Action::Stay => {}
+        Action::Move { adjustment } => {
+            let new = Placing {
+                first: first_bin,
+                bins,
+                adjustment,
+            };
+            write_part(old, new, start, end, first, rows)
+        }
+        Action::Split { bucket, adjustment } => {
+            let new = Placing {
+                first: first_bin,
+                bins,
+                adjustment,
+            };
+            write_part(old, new, bucket, end, first, rows)
+        }
+    }
+}
+
+// How the buckets of an interval of the given block and adjustment are placed.
+fn placing_of(tops: &[u32], block: usize, adjustment: u32) -> Placing
+    requires { ⌜ (block < length (now tops)) × (entryBefore (now tops) block ≤ getD (now tops) block 0) ⌝ }
+    ensures { λ r.
+        ⌜
+        r
+        ≡ placing (entryBefore (now (tops .entry)) block)
+        (getD (now (tops .entry)) block 0 - entryBefore (now (tops .entry)) block)
+        adjustment
+        ⌝ }
+{
+    let first = before(tops, block);
+    Placing {
+        first,
+        bins: tops[block] - first,
+        adjustment,
+    }
+}
+
+// The page from order number `first` on, where some old block is due less than it has: the old intervals from the left, of which
+// each that moves or splits has rows.
+fn write_moved(
+    h: Header,
+    tops: &[u32],
+    ends: &[u32],
+    blocks: &[u32],
+    adjustments: &[u32],
+    buckets: u32,
+    bins: u32,
+    dues: &[u32; 65],
+    first: u32,
+    rows: &mut [u32],
+)
+    requires { ⌜ LentSound h (now tops) (now ends) (now blocks) (now adjustments) ⌝ }
+    requires { ⌜ firstOf (growthTests (lent h (now tops) (now ends) (now blocks) (now adjustments)) (sizesOf buckets bins)) ≡ 0 ⌝ }
+    requires { ⌜ someFall (lent h (now tops) (now ends) (now blocks) (now adjustments)) (sizesOf buckets bins) ≡ true ⌝ }
+    requires { ⌜ DuesAfter (lent h (now tops) (now ends) (now blocks) (now adjustments)) (sizesOf buckets bins) (now dues) ⌝ }
+    ensures { λ _.
+        ⌜
+        now (rows .exit)
+        ≡ over
+        (joined
+        (page first (length (now (rows .entry)))
+        (rowsOf
+        (lent h (now (tops .entry)) (now (ends .entry)) (now (blocks .entry)) (now (adjustments .entry)))
+        (expanded
+        (lent h (now (tops .entry)) (now (ends .entry)) (now (blocks .entry)) (now (adjustments .entry)))
+        (sizesOf buckets bins)))))
+        (now (rows .entry))
+        ⌝ }
+{
+    let old_bins = bin_count(h, tops, ends, blocks, adjustments);
+    let mut i: usize = 0;
+    let mut start: u32 = 0;
+    let mut moved: u32 = 0;
+    while i < h.interval_count as usize {
+        let plan = plan_at(
+            h,
+            tops,
+            ends,
+            blocks,
+            adjustments,
+            buckets,
+            bins,
+            dues,
+            i,
+            start,
+            moved,
+        );
+        let end = ends[i];
+        let old = placing_of(tops, blocks[i] as usize, adjustments[i]);
+        let action = plan.action;
+        write_action(
+            action,
+            start,
+            end,
+            old,
+            old_bins,
+            bins - old_bins,
+            moved,
+            first,
+            rows,
+        );
+        start = end;
+        moved = plan.moved;
+        i += 1;
+    }
+}
+
+// How many rows there are: max(0, B - T).
+pub fn relocation_count(
+    h: Header,
+    tops: &[u32],
+    ends: &[u32],
+    blocks: &[u32],
+    adjustments: &[u32],
+    buckets: u32,
+    bins: u32,
+) -> u32
+    requires { ⌜ LentSound h (now tops) (now ends) (now blocks) (now adjustments) ⌝ }
+    requires { ⌜ firstOf (growthTests (lent h (now tops) (now ends) (now blocks) (now adjustments)) (sizesOf buckets bins)) ≡ 0 ⌝ }
+    ensures { λ r.
+        ⌜
+        r
+        ≡ length
+        (rowsOf
+        (lent h (now (tops .entry)) (now (ends .entry)) (now (blocks .entry)) (now (adjustments .entry)))
+        (expanded
+        (lent h (now (tops .entry)) (now (ends .entry)) (now (blocks .entry)) (now (adjustments .entry)))
+        (sizesOf buckets bins)))
+        ⌝ }
+{
+    let old_bins = bin_count(h, tops, ends, blocks, adjustments);
+    excess(
+        h.buckets,
+        due_below(buckets / bins, buckets % bins, old_bins),
+    )
+}
+
+// The rows from order number `first` on, as many as remain or fit whole; how many were written.
+pub fn write_relocations(
+    h: Header,
+    tops: &[u32],
+    ends: &[u32],
+    blocks: &[u32],
+    adjustments: &[u32],
+    buckets: u32,
+    bins: u32,
+    first: u32,
+    rows: &mut [u32],
+) -> u32
+    requires { ⌜ LentSound h (now tops) (now ends) (now blocks) (now adjustments) ⌝ }
+    requires { ⌜ firstOf (growthTests (lent h (now tops) (now ends) (now blocks) (now adjustments)) (sizesOf buckets bins)) ≡ 0 ⌝ }
+    requires { ⌜
+        first
+        ≤ length
+        (rowsOf
+        (lent h (now tops) (now ends) (now blocks) (now adjustments))
+        (expanded
+        (lent h (now tops) (now ends) (now blocks) (now adjustments))
+        (sizesOf buckets bins)))
+        ⌝ }
+    ensures { λ r.
+        ⌜
+        r
+        ≡ length
+        (page first (length (now (rows .entry)))
+        (rowsOf
+        (lent h (now (tops .entry)) (now (ends .entry)) (now (blocks .entry)) (now (adjustments .entry)))
+        (expanded
+        (lent h (now (tops .entry)) (now (ends .entry)) (now (blocks .entry)) (now (adjustments .entry)))
+        (sizesOf buckets bins))))
+        ⌝ }
+    ensures { λ _.
+        ⌜
+        now (rows .exit)
+        ≡ over
+        (joined
+        (page first (length (now (rows .entry)))
+        (rowsOf
+        (lent h (now (tops .entry)) (now (ends .entry)) (now (blocks .entry)) (now (adjustments .entry)))
+        (expanded
+        (lent h (now (tops .entry)) (now (ends .entry)) (now (blocks .entry)) (now (adjustments .entry)))
+        (sizesOf buckets bins)))))
+        (now (rows .entry))
+        ⌝ }
+{
+    let total = relocation_count(h, tops, ends, blocks, adjustments, buckets, bins);
+    if first == total {
+        return 0;
+    }
+    let dues = dues_after(h, tops, ends, blocks, adjustments, buckets, bins);
+    write_moved(
+        h,
+        tops,
+        ends,
+        blocks,
+        adjustments,
+        buckets,
+        bins,
+        &dues,
+        first,
+        rows,
+    );
+    let left = total - first;
+    let room = rows.len() / 5;
+    if left as usize <= room {
+        return left;
+    }
+    room as u32
+}

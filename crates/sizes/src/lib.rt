@@ -1,0 +1,69 @@
+// The sizes asked for, the room lent for a new table, and the initial table.
+ghost use mathlib.Core.Path.{_≡_};
+ghost use mathlib.Core.Bool.{false};
+ghost use Rattle.model.specs.Table.{arrays, written};
+ghost use Rattle.model.specs.Refusal.{first, roomShort};
+ghost use Rattle.model.specs.Initial.{initial};
+ghost use Rattle.model.specs.Calls.{sizeTests};
+ghost use Rattle.model.specs.Console.{sizes as sizesOf};
+
+// 21: room for a new table below 65 tops or below 2,081 of any interval array.
+pub fn room_short(tops: &[u32], ends: &[u32], blocks: &[u32], adjustments: &[u32]) -> bool
+    ensures { λ r. ⌜ r ≡ roomShort (arrays (now (tops .entry)) (now (ends .entry)) (now (blocks .entry)) (now (adjustments .entry))) ⌝ }
+{
+    if tops.len() < 65 {
+        return true;
+    }
+    if ends.len() < 2_081 {
+        return true;
+    }
+    if blocks.len() < 2_081 {
+        return true;
+    }
+    adjustments.len() < 2_081
+}
+
+// 1: a size is 0 or above its limit. 2: n > B. The number of the first that holds, or 0.
+pub fn size_refusal(buckets: u32, bins: u32) -> u32
+    ensures { λ r. ⌜ r ≡ first (sizeTests (sizesOf buckets bins)) ⌝ }
+{
+    if buckets == 0 {
+        return 1;
+    }
+    if 1_000_000_000 < buckets {
+        return 1;
+    }
+    if bins == 0 {
+        return 1;
+    }
+    if 65_535 < bins {
+        return 1;
+    }
+    if buckets < bins {
+        return 2;
+    }
+    0
+}
+
+// The initial table: one block, one interval.
+pub fn write_initial(
+    buckets: u32,
+    bins: u32,
+    tops: &mut [u32],
+    ends: &mut [u32],
+    blocks: &mut [u32],
+    adjustments: &mut [u32],
+)
+    requires { ⌜ roomShort (arrays (now tops) (now ends) (now blocks) (now adjustments)) ≡ false ⌝ }
+    ensures { λ _.
+        ⌜
+        arrays (now (tops .exit)) (now (ends .exit)) (now (blocks .exit)) (now (adjustments .exit))
+        ≡ written (initial (sizesOf buckets bins))
+        (arrays (now (tops .entry)) (now (ends .entry)) (now (blocks .entry)) (now (adjustments .entry)))
+        ⌝ }
+{
+    tops[0] = bins;
+    ends[0] = buckets;
+    blocks[0] = 0;
+    adjustments[0] = 0;
+}

@@ -1,0 +1,4 @@
+pub mod Finding
+pub mod Passed
+pub mod Searches
+pub mod Turns
