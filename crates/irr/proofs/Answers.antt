@@ -3,13 +3,15 @@ use Prim.Native.Nat.{ℕ, _+_, _*_, _≤_, _<_}
 use mathlib.Core.Path.{_≡_, sym, _∙_, ap}
 use mathlib.Core.Bool.{true, false}
 use mathlib.Core.List.{List, [], _++_}
+use mathlib.Core.Logic.{⊎-elim}
 use native.Mathlib.Nat.{zero-add}
 use native.Mathlib.Omega.{arith}
 use lib.ListN.{length, getD}
-use borrow.Author.Tests.{lt-ltb, le-ltb, ne-eqb, eqb-true, not-false}
+use borrow.Author.Tests.{lt-ltb, le-ltb, le-leb, lt-leb, ne-eqb, eqb-true, not-false}
 use Rattle.model.specs.Basics.{if_then_else_, from}
 use Rattle.model.specs.Table.{Shape, Arrays, arrays, table, header, over, written}
-use Rattle.model.specs.Refusal.{Test, first, roomShort}
+use Rattle.model.specs.Place.{located, locatedRefusal}
+use Rattle.model.specs.Refusal.{Test, first, roomShort, bucketPast}
 use Rattle.model.specs.Sound.{Sound}
 use Rattle.model.specs.Initial.{initial}
 use Rattle.model.specs.Room.{room}
@@ -52,6 +54,7 @@ use Rattle.model.specs.declared.reply.LoadReply.{LoadReply}
 use Rattle.model.specs.declared.reply.PlaceReply.{PlaceReply}
 use Rattle.model.specs.declared.reply.FindReply.{FindReply}
 use Rattle.model.specs.declared.reply.BinSizeReply.{BinSizeReply}
+use Rattle.model.proofs.Counts.{below-or}
 use Rattle.model.proofs.Refusals.{or-right, first-clear, first-here, first-skip, first-found, first-after, accepted}
 use Rattle.model.proofs.Tables.{getD-from}
 use Rattle.model.proofs.Bytes.{saved-same}
@@ -79,9 +82,19 @@ module _ (h : Header) (a : Arrays) (r : ℕ) (e : r ≡ first (tableTests h a)) 
   unfolding placeReply placeAnswer
   place-refused x n = rw (← stands (placeTests (table h a) x) n) (refused r _ _ n)
 
-  pub place-accepted : (x : ℕ) → r ≡ 0 → placeAnswer (first (placeTests (table h a) x)) (table h a) x ≡ placeReply h a x
+  -- the search's refusal number is that of placing's test
+  located-refusal : (x : ℕ) → locatedRefusal (located (table h a) x) ≡ first (placeTests (table h a) x)
+  unfolding locatedRefusal located first placeTests bucketPast if_then_else_
+  located-refusal x =
+      ⊎-elim
+      (λ l. rw (lt-ltb x (table h a .buckets) l, lt-leb (table h a .buckets) x l))
+      (λ l. rw (le-ltb x (table h a .buckets) l, le-leb (table h a .buckets) x l))
+      (below-or x (table h a .buckets))
+
+  pub place-accepted : (x : ℕ) → r ≡ 0 → placeAnswer (locatedRefusal (located (table h a) x)) (table h a) x ≡ placeReply h a x
   unfolding placeReply
-  place-accepted x z = ap (λ q. placeAnswer q (table h a) x) (passed (placeTests (table h a) x) z)
+  place-accepted x z =
+      ap (λ q. placeAnswer q (table h a) x) (located-refusal x ∙ passed (placeTests (table h a) x) z)
 
   pub find-refused : (y p : ℕ) → (r ≡ 0 → ⊥) → record { refusal = r; bucket = 0 } ≡ findReply h a y p
   unfolding findReply findAnswer

@@ -2,11 +2,15 @@
 // number of document 01. A lent table is a header and four arrays: tops, ends, blocks, adjustments.
 ghost use mathlib.Core.Path.{_≡_};
 ghost use Rattle.model.specs.Table.{arrays};
+ghost use mathlib.Core.Bool.{false};
+ghost use Rattle.model.specs.Refusal.{roomShort};
 ghost use Rattle.table.specs.Lent.{lent, LentSound};
-ghost use Rattle.irr.specs.Replies.{MovesReply};
+ghost use Rattle.irr.specs.Replies.{GrowReply, MovesReply};
 ghost use Rattle.model.specs.Calls.{
   initialReply,
   initialArrays,
+  expandReply,
+  expandArrays,
   relocationsReply,
   relocationsRows,
   placeReply,
@@ -75,6 +79,115 @@ fn refused_table(refusal: u32) -> TableReply
             buckets: 0,
             block_count: 0,
             interval_count: 0,
+        },
+    }
+}
+
+// A growth: writes the table of `buckets` in `bins` that follows the lent one to four other arrays.
+pub fn expand(
+    header: Header,
+    tops: &[u32],
+    ends: &[u32],
+    blocks: &[u32],
+    adjustments: &[u32],
+    buckets: u32,
+    bins: u32,
+    new_tops: &mut [u32],
+    new_ends: &mut [u32],
+    new_blocks: &mut [u32],
+    new_adjustments: &mut [u32],
+) -> TableReply
+    ensures { λ r.
+        ⌜
+        r
+        ≡ expandReply header (arrays (now (tops .entry)) (now (ends .entry)) (now (blocks .entry)) (now (adjustments .entry)))
+        (sizesOf buckets bins)
+        (arrays (now («new_tops» .entry)) (now («new_ends» .entry)) (now («new_blocks» .entry)) (now («new_adjustments» .entry)))
+        ⌝ }
+    ensures { λ _.
+        ⌜
+        arrays (now («new_tops» .exit)) (now («new_ends» .exit)) (now («new_blocks» .exit)) (now («new_adjustments» .exit))
+        ≡ expandArrays header (arrays (now (tops .entry)) (now (ends .entry)) (now (blocks .entry)) (now (adjustments .entry)))
+        (sizesOf buckets bins)
+        (arrays (now («new_tops» .entry)) (now («new_ends» .entry)) (now («new_blocks» .entry)) (now («new_adjustments» .entry)))
+        ⌝ }
+{
+    if sizes::room_short(new_tops, new_ends, new_blocks, new_adjustments) {
+        return refused_table(21);
+    }
+    let refusal = table::check::check(header, tops, ends, blocks, adjustments);
+    if refusal != 0 {
+        return refused_table(refusal);
+    }
+    grown(
+        header,
+        tops,
+        ends,
+        blocks,
+        adjustments,
+        buckets,
+        bins,
+        new_tops,
+        new_ends,
+        new_blocks,
+        new_adjustments,
+    )
+}
+
+// The same of a sound table, with room for any table.
+fn grown(
+    header: Header,
+    tops: &[u32],
+    ends: &[u32],
+    blocks: &[u32],
+    adjustments: &[u32],
+    buckets: u32,
+    bins: u32,
+    new_tops: &mut [u32],
+    new_ends: &mut [u32],
+    new_blocks: &mut [u32],
+    new_adjustments: &mut [u32],
+) -> TableReply
+    requires { ⌜ LentSound header (now tops) (now ends) (now blocks) (now adjustments) ⌝ }
+    requires { ⌜ roomShort (arrays (now «new_tops») (now «new_ends») (now «new_blocks») (now «new_adjustments»)) ≡ false ⌝ }
+    ensures { λ r.
+        ⌜
+        GrowReply (lent header (now (tops .entry)) (now (ends .entry)) (now (blocks .entry)) (now (adjustments .entry)))
+        (sizesOf buckets bins)
+        (arrays (now («new_tops» .entry)) (now («new_ends» .entry)) (now («new_blocks» .entry)) (now («new_adjustments» .entry)))
+        (arrays (now («new_tops» .exit)) (now («new_ends» .exit)) (now («new_blocks» .exit)) (now («new_adjustments» .exit)))
+        r
+        ⌝ }
+{
+    let wrong = plan::growth_refusal(header, tops, ends, blocks, adjustments, buckets, bins);
+    if wrong != 0 {
+        return refused_table(wrong);
+    }
+    let growth = expansion::count::measure(header, tops, ends, blocks, adjustments, buckets, bins);
+    if 2_081 < growth.intervals {
+        return refused_table(8);
+    }
+    let block_count = plan::blocks_after(header, tops, ends, blocks, adjustments, buckets, bins);
+    expansion::write::write_expanded(
+        header,
+        tops,
+        ends,
+        blocks,
+        adjustments,
+        buckets,
+        bins,
+        new_tops,
+        new_ends,
+        new_blocks,
+        new_adjustments,
+    );
+    TableReply {
+        refusal: 0,
+        moved: growth.moved,
+        header: Header {
+            buckets,
+            block_count,
+            interval_count: growth.intervals,
         },
     }
 }

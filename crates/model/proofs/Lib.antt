@@ -30,3 +30,5 @@ pub mod Shares
 pub mod Asked
 pub mod Rows
 pub mod Pages
+pub mod Steps
+pub mod Entries

@@ -83,6 +83,10 @@ unfoldable pub holderBucket : List Interval → ℕ → Holder → ℕ
 holderBucket is r (In k) = r + getD is k (interval 0 0 0) .adjustment
 holderBucket is r Nothing = 0
 
+-- what the search for the rank of position p of bin y answers
+unfoldable pub heldAt : Table → ℕ → ℕ → Holder
+heldAt t y p = holder (t .intervals) 0 0 (blockOfBin (t .tops) y) (rankAt (t .tops) y p)
+
 -- the bucket at position p of bin y
 unfoldable pub bucketAt : Table → ℕ → ℕ → ℕ
 bucketAt t y p =

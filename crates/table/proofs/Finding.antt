@@ -12,7 +12,7 @@ use lib.ListN.{drop-of-length-le}
 use borrow.Author.Tests.{lt-ltb, le-ltb, le-leb, lt-leb}
 use Rattle.model.specs.Basics.{if_then_else_, _or_, from, before}
 use Rattle.model.specs.Table.{Shape, Table, firstBin, Arrays, bins, shape, table}
-use Rattle.model.specs.Place.{blockOfBin, includes, holder, binSize, rankAt}
+use Rattle.model.specs.Place.{blockOfBin, includes, holder, binSize, rankAt, holderRefusal, heldAt}
 use Rattle.model.specs.Due.{due}
 use Rattle.model.specs.Refusal.{first, binPast, placePast}
 use Rattle.model.specs.Sound.{Sound}
@@ -24,7 +24,7 @@ use Rattle.model.specs.declared.search.Holder.the-variants.{In, Nothing}
 use Rattle.model.proofs.Counts.{bit-cases, below-or}
 use Rattle.model.proofs.Dues.{due-more, due-less}
 use Rattle.model.proofs.Places.{size-due}
-use Rattle.model.proofs.Finds.{entry, Including, includes-holds, includes-true, Searched}
+use Rattle.model.proofs.Finds.{entry, Including, includes-holds, includes-true, Searched, place-searched}
 use Rattle.model.proofs.Rules.{before-next}
 use Rattle.table.proofs.Searches.{first-kept, bins-kept}
 
@@ -204,9 +204,9 @@ module _
       bucket-inside = omega (arith, v .inside)
 
       pub find-here
-          : record { refusal = 0; bucket = rank + getD (a .adjustments) (v .place) 0 } ≡ findAnswer 0 (table h a) y p
-      unfolding findAnswer answer if_then_else_
-      find-here = rw (v .bucket, g)
+          : record { refusal = 0; bucket = rank + getD (a .adjustments) (v .place) 0 } ≡ findAnswer (holderRefusal (heldAt (table h a) y p)) (table h a) y p
+      unfolding findAnswer answer holderRefusal heldAt if_then_else_
+      find-here = rw (v .found, v .bucket, g)
 
 -- A BIN'S SIZE AS IT WAS ANSWERED
 
@@ -244,6 +244,9 @@ place-outside t y p (inr l) =
     (below-or y (bins t))
 
 pub place-inside
-    : (t : Table) (y p : ℕ) → y < bins t → p < binSize t y → findAnswer 0 t y p ≡ findAnswer (first (findTests t y p)) t y p
-unfolding first findTests placePast binPast _or_ if_then_else_
-place-inside t y p l k = rw (lt-leb (bins t) y l, lt-leb (binSize t y) p k)
+    : (h : Header) (a : Arrays) → Sound h a → (y p : ℕ) → y < bins (table h a) → p < binSize (table h a) y
+    → findAnswer (holderRefusal (heldAt (table h a) y p)) (table h a) y p
+    ≡ findAnswer (first (findTests (table h a) y p)) (table h a) y p
+unfolding first findTests placePast binPast _or_ if_then_else_ holderRefusal heldAt
+place-inside h a s y p l k =
+    rw (place-searched h a s y p l k .found, lt-leb (bins (table h a)) y l, lt-leb (binSize (table h a) y) p k)

@@ -6,13 +6,13 @@ use native.Mathlib.Nat.{le-trans, zero-add}
 use native.Mathlib.Omega.{arith}
 use lib.ListN.{getD}
 use lib.Seq.{getD-take}
-use borrow.Author.Tests.{lt-ltb, le-ltb, le-leb, lt-leb}
+use borrow.Author.Tests.{lt-ltb, le-ltb}
 use Rattle.model.specs.Basics.{if_then_else_, from, before}
 use Rattle.model.specs.Table.{Interval, interval, firstBin, blockBins, Arrays, table}
-use Rattle.model.specs.Place.{indexOf, blockOf, rank, bin, position, located}
-use Rattle.model.specs.Refusal.{first, bucketPast, adjustmentOf}
+use Rattle.model.specs.Place.{indexOf, blockOf, rank, bin, position, located, locatedRefusal}
+use Rattle.model.specs.Refusal.{adjustmentOf}
 use Rattle.model.specs.Sound.{Sound}
-use Rattle.model.specs.Calls.{answer, placeAnswer, placeTests}
+use Rattle.model.specs.Calls.{answer, placeAnswer}
 use Rattle.model.specs.declared.table.Header.{Header}
 use Rattle.model.specs.declared.search.Located.{Located}
 use Rattle.model.specs.declared.search.Located.the-variants.{At, Outside}
@@ -135,16 +135,16 @@ module _ (h : Header) (a : Arrays) (s : Sound h a) where
   -- the block of interval i has first bin f
   pub place-at
       : (x i r f : ℕ) → Reached h a x i r → f ≡ before (a .tops) (getD (a .blocks) i 0)
-      → placeAnswer (first (placeTests (table h a) x)) (table h a) x
+      → placeAnswer (locatedRefusal (located (table h a) x)) (table h a) x
       ≡ record {
         refusal = 0;
         bin = f + r % (getD (a .tops) (getD (a .blocks) i 0) 0 - f);
         position = r / (getD (a .tops) (getD (a .blocks) i 0) 0 - f);
       }
-  unfolding placeAnswer answer first placeTests bucketPast if_then_else_ bin position table
+  unfolding placeAnswer answer locatedRefusal located if_then_else_ bin position table
   place-at x i r f found e =
       rw (
-        lt-leb (h .buckets) x (found .inside),
+        lt-ltb x (h .buckets) (found .inside),
         found .block,
         found .ranked,
         bins-kept (getD (a .blocks) i 0) (found .blockBelow),
@@ -154,6 +154,6 @@ module _ (h : Header) (a : Arrays) (s : Sound h a) where
 
   pub place-past
       : (x : ℕ) → h .buckets ≤ x
-      → placeAnswer (first (placeTests (table h a) x)) (table h a) x ≡ record { refusal = 6; bin = 0; position = 0 }
-  unfolding placeAnswer answer first placeTests bucketPast if_then_else_ table
-  place-past x l = rw (le-leb (h .buckets) x l)
+      → placeAnswer (locatedRefusal (located (table h a) x)) (table h a) x ≡ record { refusal = 6; bin = 0; position = 0 }
+  unfolding placeAnswer answer locatedRefusal located if_then_else_ table
+  place-past x l = rw (le-ltb x (h .buckets) l)

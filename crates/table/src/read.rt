@@ -4,9 +4,9 @@ ghost use mathlib.Core.Path.{_≡_};
 ghost use lib.ListN.{length, take};
 ghost use Rattle.model.specs.Basics.{before as entryBefore};
 ghost use Rattle.model.specs.Table.{bins as binsOf};
-ghost use Rattle.model.specs.Place.{located, blockOfBin, binSize, holder};
+ghost use Rattle.model.specs.Place.{located, locatedRefusal, blockOfBin, binSize, holder, holderRefusal, heldAt};
 ghost use Rattle.model.specs.Refusal.{first};
-ghost use Rattle.model.specs.Calls.{placeAnswer, placeTests, findAnswer, findTests, binSizeAnswer, binSizeTests};
+ghost use Rattle.model.specs.Calls.{placeAnswer, findAnswer, findTests, binSizeAnswer, binSizeTests};
 ghost use Rattle.table.specs.Lent.{lent, LentSound};
 use model::reply::BinSizeReply;
 use model::reply::FindReply;
@@ -68,7 +68,7 @@ pub fn placed(
         ⌜
         r
         ≡ placeAnswer
-        (first (placeTests (lent h (now (tops .entry)) (now (ends .entry)) (now (blocks .entry)) (now (adjustments .entry))) bucket))
+        (locatedRefusal (located (lent h (now (tops .entry)) (now (ends .entry)) (now (blocks .entry)) (now (adjustments .entry))) bucket))
         (lent h (now (tops .entry)) (now (ends .entry)) (now (blocks .entry)) (now (adjustments .entry)))
         bucket
         ⌝ }
@@ -209,7 +209,9 @@ fn bucket_at(
     ensures { λ r.
         ⌜
         r
-        ≡ findAnswer 0
+        ≡ findAnswer
+        (holderRefusal
+        (heldAt (lent h (now (tops .entry)) (now (ends .entry)) (now (blocks .entry)) (now (adjustments .entry))) bin position))
         (lent h (now (tops .entry)) (now (ends .entry)) (now (blocks .entry)) (now (adjustments .entry)))
         bin position
         ⌝ }

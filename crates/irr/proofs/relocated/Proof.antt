@@ -24,7 +24,7 @@ same-length : tie.Need-same-length
 same-length c = search needs
 
 returns-3 : tie.Need-returns-3
-returns-3 c = 
+returns-3 c =
     moves-accepted _ _ _ _ _ (c .before .before .before .before .before .before .before .growth-refusal .ensures) _ _ _ (c .before .before .before .before .before .before .if1 .left) (omega arith)
     (c .before .before .write-relocations .ensures .0)
     (c .before .before .before .before .before .relocation-count .ensures)

@@ -42,7 +42,7 @@ bucket-at-requires : tie.Need-bucket-at-requires
 bucket-at-requires c κs = (c .before .before .before .before .before .before .before .before .before .pre, (accepted (c .before .before) .0, omega (arith, accepted (c .before .before))))
 
 returns-3 : tie.Need-returns-3
-returns-3 c = c .bucket-at .ensures ∙ place-inside _ _ _ (accepted (c .before .before .before) .0) (omega (arith, accepted (c .before .before .before)))
+returns-3 c = c .bucket-at .ensures ∙ place-inside _ _ (c .before .before .before .before .before .before .before .before .before .before .pre) _ _ (accepted (c .before .before .before) .0) (omega (arith, accepted (c .before .before .before)))
 
 pub found-spec : {M : Type 1} → statement M
 found-spec = tie.close (tie.spec sized-requires returns returns-2 bucket-at-requires returns-3)

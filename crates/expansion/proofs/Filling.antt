@@ -1,0 +1,101 @@
+-- A growth by which no old block is due less: its intervals as they are written. Assumes nothing.
+use Prim.Native.Nat.{ℕ, _+_, _-_, _≤_, _<_}
+use mathlib.Core.Path.{_≡_, refl, sym, _∙_, ap}
+use mathlib.Core.List.{List, [], _∷_, _++_, append-assoc}
+use native.Mathlib.Omega.{arith}
+use lib.ListN.{length, getD, length-append}
+use Rattle.model.specs.Basics.{from}
+use Rattle.model.specs.Limits.{maxBlocks}
+use Rattle.model.specs.Table.{Shape, Interval, interval, Arrays, table}
+use Rattle.model.specs.Expansion.{newTops, lengthened, gain, pieces, filled}
+use Rattle.model.specs.declared.table.Header.{Header}
+use Rattle.model.proofs.Tables.{lentInterval, length-from}
+use Rattle.model.proofs.Filled.{lastOf, lengthTo}
+use Rattle.model.proofs.Steps.{last-lent, lengthened-lent, end-last, filled-within}
+use Rattle.expansion.specs.Given.{Fills}
+use Rattle.expansion.specs.Stored.{Stored}
+use Rattle.expansion.proofs.Pieces.{fills-well, fills-asked, fills-up, gain-from}
+use Rattle.expansion.proofs.Stores.{stored-more}
+
+module _ (h : Header) (a : Arrays) (s : Shape) (olds dues : List ℕ) (f : Fills h a s olds dues) where
+  abbrev last : ℕ
+  last = h .«interval_count» - 1
+
+  abbrev block : ℕ
+  block = getD (a .blocks) last 0
+
+  -- the last interval's block is one of at most 65
+  pub block-few : block < maxBlocks
+  block-few =
+      let sound = f .sound in
+      let some = sound .someIntervals in
+      omega (arith, sound .blocksBelow last (omega arith), sound .blockLimit)
+
+  -- where the last interval ends once it is lengthened
+  pub end-filled : h .buckets + (getD dues block 0 - getD olds block 0) ≡ lengthTo (table h a) s
+  unfolding table
+  end-filled =
+      omega (
+        arith,
+        gain-from h a s olds dues f block block-few,
+        ap (gain (table h a) s) (last-lent h a (f .sound .someIntervals)),
+      )
+
+  -- the old intervals but the last, that one, and the pieces
+  pub filled-lent
+      : (e : ℕ) → e ≡ lengthTo (table h a) s
+      → filled (table h a) s
+      ≡ (from (lentInterval a) 0 last ++ (interval e block (getD (a .adjustments) last 0) ∷ []))
+      ++ pieces (table h a) s e 0 (length (newTops (table h a) s))
+  unfolding filled table
+  filled-lent e q =
+      let some = f .sound .someIntervals in
+      ap (λ is. is ++ pieces (table h a) s (lengthTo (table h a) s) 0 (length (newTops (table h a) s)))
+      (lengthened-lent h a some (gain (table h a) s (lastOf (table h a))))
+      ∙ ap
+      (λ k.
+      (from (lentInterval a) 0 last
+      ++ (interval (k + gain (table h a) s (lastOf (table h a))) block (getD (a .adjustments) last 0) ∷ []))
+      ++ pieces (table h a) s (lengthTo (table h a) s) 0 (length (newTops (table h a) s)))
+      (end-last h a (f .sound) last (omega arith))
+      ∙ ap
+      (λ k.
+      (from (lentInterval a) 0 last ++ (interval k block (getD (a .adjustments) last 0) ∷ []))
+      ++ pieces (table h a) s k 0 (length (newTops (table h a) s)))
+      (sym q)
+
+  -- all end at B′ or before: that one, and each piece
+  pub end-most : lengthTo (table h a) s ≤ s .buckets
+  end-most =
+      filled-within (table h a) s (fills-well h a s olds dues f) (fills-asked h a s olds dues f) (fills-up h a s olds dues f)
+      (from (lentInterval a) 0 last)
+      (interval (lengthTo (table h a) s) block (getD (a .adjustments) last 0))
+      (pieces (table h a) s (lengthTo (table h a) s) 0 (length (newTops (table h a) s)))
+      (filled-lent (lengthTo (table h a) s) refl ∙ append-assoc (from (lentInterval a) 0 last) _ _)
+
+  pub piece-most
+      : (done : List Interval) (i : Interval) (behind : List Interval)
+      → done ++ (i ∷ behind) ≡ pieces (table h a) s (lengthTo (table h a) s) 0 (length (newTops (table h a) s))
+      → i .end ≤ s .buckets
+  unfolding filled
+  piece-most done i behind e =
+      let old = lengthened (gain (table h a) s (lastOf (table h a))) (table h a .intervals) in
+      filled-within (table h a) s (fills-well h a s olds dues f) (fills-asked h a s olds dues f) (fills-up h a s olds dues f)
+      (old ++ done) i behind
+      (ap (λ is. old ++ is) (sym e) ∙ sym (append-assoc old done (i ∷ behind)))
+
+  -- so what is stored one after the other are the filled intervals
+  pub filled-stored
+      : {es bs cs es′ bs′ cs′ es″ bs″ cs″ es‴ bs‴ cs‴ : List ℕ} (e : ℕ) → e ≡ lengthTo (table h a) s
+      → Stored 0 (from (lentInterval a) 0 last) es bs cs es′ bs′ cs′
+      → Stored last (interval e block (getD (a .adjustments) last 0) ∷ []) es′ bs′ cs′ es″ bs″ cs″
+      → Stored (h .«interval_count») (pieces (table h a) s e 0 (length (newTops (table h a) s))) es″ bs″ cs″ es‴ bs‴ cs‴
+      → Stored 0 (filled (table h a) s) es bs cs es‴ bs‴ cs‴
+  filled-stored e q x y w =
+      let some = f .sound .someIntervals in
+      let olds = length-from (lentInterval a) 0 last in
+      rw (filled-lent e q)
+      (stored-more (h .«interval_count»)
+      (omega (arith, length-append (from (lentInterval a) 0 last) (interval e block (getD (a .adjustments) last 0) ∷ [])))
+      (stored-more last (omega arith) x y)
+      w)

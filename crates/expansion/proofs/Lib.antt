@@ -1,0 +1,4 @@
+pub mod Stores
+pub mod Parts
+pub mod Pieces
+pub mod Filling

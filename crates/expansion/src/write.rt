@@ -1,0 +1,533 @@
+// The writing pass of a growth. Every entry is written once: the last moved part gets its final end when it is written.
+use crate::count::piece;
+use model::plan::Action;
+use model::plan::Plan;
+use model::table::Header;
+use plan::blocks_after;
+use plan::dues_after;
+use plan::dues_before;
+use plan::plan_at;
+use plan::some_fall;
+use table::read::bin_count;
+ghost use mathlib.Core.Bool.{false};
+ghost use mathlib.Core.List.{[], _∷_};
+ghost use mathlib.Core.Path.{_≡_};
+ghost use Prim.Native.Nat.{_+_, _^_, _≤_, _<_};
+ghost use lib.ListN.{length, take};
+ghost use lib.Seq.{sets};
+ghost use Rattle.model.specs.Basics.{from};
+ghost use Rattle.model.specs.Limits.{maxBlocks, maxIntervals};
+ghost use Rattle.model.specs.Table.{interval, arrays, over, written};
+ghost use Rattle.model.specs.Refusal.{first, roomShort};
+ghost use Rattle.model.specs.Expansion.{newTops, pieces as piecesOf, filled, drained, expanded};
+ghost use Rattle.model.specs.Calls.{growthTests};
+ghost use Rattle.model.specs.Console.{sizes as sizesOf};
+ghost use Rattle.model.proofs.Tables.{lentInterval};
+ghost use Rattle.model.proofs.Filled.{lengthTo};
+ghost use Rattle.table.specs.Lent.{lent, LentSound};
+ghost use Rattle.expansion.specs.Given.{Drains, Fills};
+ghost use Rattle.expansion.specs.Stored.{made, Room, Stored};
+
+// Copies the first `count` entries of an array over those of another.
+fn copy(from: &[u32], count: usize, to: &mut [u32])
+    requires { ⌜ (count ≤ length (now from)) × (count ≤ length (now to)) ⌝ }
+    ensures { λ _. ⌜ now (to .exit) ≡ sets (now (to .entry)) 0 (take count (now (from .entry))) ⌝ }
+{
+    let mut i: usize = 0;
+    while i < count {
+        to[i] = from[i];
+        i += 1;
+    }
+}
+
+// Writes one interval at place o.
+fn write_interval(
+    end: u32,
+    block: u32,
+    adjustment: u32,
+    o: usize,
+    ends: &mut [u32],
+    blocks: &mut [u32],
+    adjustments: &mut [u32],
+)
+    requires { ⌜ Room (o + 1) (now ends) (now blocks) (now adjustments) ⌝ }
+    ensures { λ _.
+        ⌜
+        Stored o (interval end block adjustment ∷ [])
+        (now (ends .entry)) (now (blocks .entry)) (now (adjustments .entry))
+        (now (ends .exit)) (now (blocks .exit)) (now (adjustments .exit))
+        ⌝ }
+{
+    ends[o] = end;
+    blocks[o] = block;
+    adjustments[o] = adjustment;
+}
+
+// Writes what the plan for an old interval makes of it, from place o on: what moves goes to block g. `left` new buckets lengthen
+// what moves, or form an interval of block g behind one that stays. The next place.
+fn write_parts(
+    plan: Plan,
+    end: u32,
+    block: u32,
+    adjustment: u32,
+    g: u32,
+    left: u32,
+    o: usize,
+    ends: &mut [u32],
+    blocks: &mut [u32],
+    adjustments: &mut [u32],
+) -> usize
+    requires { ⌜ (plan .moved ≤ end) × (end + left < 2 ^ 32) ⌝ }
+    requires { ⌜ Room (o + length (made plan (interval end block adjustment) g left)) (now ends) (now blocks) (now adjustments) ⌝ }
+    ensures place { λ r. ⌜ r ≡ o + length (made plan (interval end block adjustment) g left) ⌝ }
+    ensures stored { λ _.
+        ⌜
+        Stored o (made plan (interval end block adjustment) g left)
+        (now (ends .entry)) (now (blocks .entry)) (now (adjustments .entry))
+        (now (ends .exit)) (now (blocks .exit)) (now (adjustments .exit))
+        ⌝ }
+{
+    let action = plan.action;
+    match action {
+        Action::Stay => {
+            write_interval(end, block, adjustment, o, ends, blocks, adjustments);
+            if left == 0 {
+                return o + 1;
+            }
+            write_interval(
+                end + left,
+                g,
+                end - plan.moved,
+                o + 1,
+                ends,
+                blocks,
+                adjustments,
+            );
+            o + 2
+        }
+        Action::Move { adjustment: shift } => {
+            write_interval(end + left, g, shift, o, ends, blocks, adjustments);
+            o + 1
+        }
+        Action::Split {
+            bucket,
+            adjustment: shift,
+        } => {
+            write_interval(bucket, block, adjustment, o, ends, blocks, adjustments);
+            write_interval(end + left, g, shift, o + 1, ends, blocks, adjustments);
+            o + 2
+        }
+    }
+}
+
+// Some old block is due less: one pass over the old intervals.
+fn write_drained(
+    h: Header,
+    tops: &[u32],
+    ends: &[u32],
+    blocks: &[u32],
+    adjustments: &[u32],
+    buckets: u32,
+    bins: u32,
+    dues: &[u32; 65],
+    new_ends: &mut [u32],
+    new_blocks: &mut [u32],
+    new_adjustments: &mut [u32],
+)
+    requires { ⌜ Drains h (arrays (now tops) (now ends) (now blocks) (now adjustments)) (sizesOf buckets bins) (now dues) ⌝ }
+    requires { ⌜
+        Room (length (drained (lent h (now tops) (now ends) (now blocks) (now adjustments)) (sizesOf buckets bins)))
+        (now «new_ends») (now «new_blocks») (now «new_adjustments»)
+        ⌝ }
+    ensures { λ _.
+        ⌜
+        Stored 0
+        (drained
+        (lent h (now (tops .entry)) (now (ends .entry)) (now (blocks .entry)) (now (adjustments .entry)))
+        (sizesOf buckets bins))
+        (now («new_ends» .entry)) (now («new_blocks» .entry)) (now («new_adjustments» .entry))
+        (now («new_ends» .exit)) (now («new_blocks» .exit)) (now («new_adjustments» .exit))
+        ⌝ }
+{
+    let last = h.interval_count as usize - 1;
+    let mut start: u32 = 0;
+    let mut moved: u32 = 0;
+    let mut o: usize = 0;
+    let mut i: usize = 0;
+    while i < last {
+        let plan = plan_at(
+            h,
+            tops,
+            ends,
+            blocks,
+            adjustments,
+            buckets,
+            bins,
+            dues,
+            i,
+            start,
+            moved,
+        );
+        let end = ends[i];
+        o = write_parts(
+            plan,
+            end,
+            blocks[i],
+            adjustments[i],
+            h.block_count,
+            0,
+            o,
+            new_ends,
+            new_blocks,
+            new_adjustments,
+        );
+        start = end;
+        moved = plan.moved;
+        i += 1;
+    }
+    let plan = plan_at(
+        h,
+        tops,
+        ends,
+        blocks,
+        adjustments,
+        buckets,
+        bins,
+        dues,
+        last,
+        start,
+        moved,
+    );
+    let left = buckets - h.buckets;
+    write_parts(
+        plan,
+        h.buckets,
+        blocks[last],
+        adjustments[last],
+        h.block_count,
+        left,
+        o,
+        new_ends,
+        new_blocks,
+        new_adjustments,
+    );
+}
+
+// No old block is due less: one pass over the blocks, whose pieces begin at bucket `start` and go behind the old intervals.
+fn write_pieces(
+    h: Header,
+    tops: &[u32],
+    ends: &[u32],
+    blocks: &[u32],
+    adjustments: &[u32],
+    buckets: u32,
+    bins: u32,
+    olds: &[u32; 65],
+    dues: &[u32; 65],
+    start: u32,
+    new_ends: &mut [u32],
+    new_blocks: &mut [u32],
+    new_adjustments: &mut [u32],
+)
+    requires { ⌜ Fills h (arrays (now tops) (now ends) (now blocks) (now adjustments)) (sizesOf buckets bins) (now olds) (now dues) ⌝ }
+    requires { ⌜ start ≡ lengthTo (lent h (now tops) (now ends) (now blocks) (now adjustments)) (sizesOf buckets bins) ⌝ }
+    requires { ⌜
+        Room (h .«interval_count» + length (piecesOf (lent h (now tops) (now ends) (now blocks) (now adjustments)) (sizesOf buckets bins) start 0 (length (newTops (lent h (now tops) (now ends) (now blocks) (now adjustments)) (sizesOf buckets bins)))))
+        (now «new_ends») (now «new_blocks») (now «new_adjustments»)
+        ⌝ }
+    ensures { λ _.
+        ⌜
+        Stored (h .«interval_count»)
+        (piecesOf
+        (lent h (now (tops .entry)) (now (ends .entry)) (now (blocks .entry)) (now (adjustments .entry)))
+        (sizesOf buckets bins)
+        start
+        0
+        (length
+        (newTops
+        (lent h (now (tops .entry)) (now (ends .entry)) (now (blocks .entry)) (now (adjustments .entry)))
+        (sizesOf buckets bins))))
+        (now («new_ends» .entry)) (now («new_blocks» .entry)) (now («new_adjustments» .entry))
+        (now («new_ends» .exit)) (now («new_blocks» .exit)) (now («new_adjustments» .exit))
+        ⌝ }
+{
+    let count = blocks_after(h, tops, ends, blocks, adjustments, buckets, bins) as usize;
+    let mut at = start;
+    let mut o = h.interval_count as usize;
+    let mut j: usize = 0;
+    while j < count {
+        let gained = piece(
+            h,
+            tops,
+            ends,
+            blocks,
+            adjustments,
+            buckets,
+            bins,
+            olds,
+            dues,
+            j,
+        );
+        let block = j;
+        j += 1;
+        if gained != 0 {
+            let end = at + gained;
+            write_interval(
+                end,
+                block as u32,
+                at - olds[block],
+                o,
+                new_ends,
+                new_blocks,
+                new_adjustments,
+            );
+            at = end;
+            o += 1;
+        }
+    }
+}
+
+// Copies the first `count` intervals.
+fn copy_intervals(
+    ends: &[u32],
+    blocks: &[u32],
+    adjustments: &[u32],
+    count: usize,
+    new_ends: &mut [u32],
+    new_blocks: &mut [u32],
+    new_adjustments: &mut [u32],
+)
+    requires { ⌜ Room count (now ends) (now blocks) (now adjustments) ⌝ }
+    requires { ⌜ Room count (now «new_ends») (now «new_blocks») (now «new_adjustments») ⌝ }
+    ensures { λ _.
+        ⌜
+        Stored 0 (from (lentInterval (arrays [] (now (ends .entry)) (now (blocks .entry)) (now (adjustments .entry)))) 0 count)
+        (now («new_ends» .entry)) (now («new_blocks» .entry)) (now («new_adjustments» .entry))
+        (now («new_ends» .exit)) (now («new_blocks» .exit)) (now («new_adjustments» .exit))
+        ⌝ }
+{
+    copy(ends, count, new_ends);
+    copy(blocks, count, new_blocks);
+    copy(adjustments, count, new_adjustments);
+}
+
+// No old block is due less: the old intervals, the last one lengthened by what its block gains, and the other blocks' pieces.
+fn write_filled(
+    h: Header,
+    tops: &[u32],
+    ends: &[u32],
+    blocks: &[u32],
+    adjustments: &[u32],
+    buckets: u32,
+    bins: u32,
+    olds: &[u32; 65],
+    dues: &[u32; 65],
+    new_ends: &mut [u32],
+    new_blocks: &mut [u32],
+    new_adjustments: &mut [u32],
+)
+    requires { ⌜ Fills h (arrays (now tops) (now ends) (now blocks) (now adjustments)) (sizesOf buckets bins) (now olds) (now dues) ⌝ }
+    requires { ⌜
+        Room (length (filled (lent h (now tops) (now ends) (now blocks) (now adjustments)) (sizesOf buckets bins)))
+        (now «new_ends») (now «new_blocks») (now «new_adjustments»)
+        ⌝ }
+    ensures { λ _.
+        ⌜
+        Stored 0
+        (filled
+        (lent h (now (tops .entry)) (now (ends .entry)) (now (blocks .entry)) (now (adjustments .entry)))
+        (sizesOf buckets bins))
+        (now («new_ends» .entry)) (now («new_blocks» .entry)) (now («new_adjustments» .entry))
+        (now («new_ends» .exit)) (now («new_blocks» .exit)) (now («new_adjustments» .exit))
+        ⌝ }
+{
+    let last = h.interval_count as usize - 1;
+    let block = blocks[last];
+    let end = h.buckets + (dues[block as usize] - olds[block as usize]);
+    copy_intervals(
+        ends,
+        blocks,
+        adjustments,
+        last,
+        new_ends,
+        new_blocks,
+        new_adjustments,
+    );
+    write_interval(
+        end,
+        block,
+        adjustments[last],
+        last,
+        new_ends,
+        new_blocks,
+        new_adjustments,
+    );
+    write_pieces(
+        h,
+        tops,
+        ends,
+        blocks,
+        adjustments,
+        buckets,
+        bins,
+        olds,
+        dues,
+        end,
+        new_ends,
+        new_blocks,
+        new_adjustments,
+    );
+}
+
+// The new tops: the old ones, and the new block's if there are more bins.
+fn write_tops(
+    h: Header,
+    tops: &[u32],
+    ends: &[u32],
+    blocks: &[u32],
+    adjustments: &[u32],
+    buckets: u32,
+    bins: u32,
+    new_tops: &mut [u32],
+)
+    requires { ⌜ LentSound h (now tops) (now ends) (now blocks) (now adjustments) ⌝ }
+    requires { ⌜ first (growthTests (lent h (now tops) (now ends) (now blocks) (now adjustments)) (sizesOf buckets bins)) ≡ 0 ⌝ }
+    requires { ⌜ maxBlocks ≤ length (now «new_tops») ⌝ }
+    ensures { λ _.
+        ⌜
+        now («new_tops» .exit)
+        ≡ over
+        (newTops
+        (lent h (now (tops .entry)) (now (ends .entry)) (now (blocks .entry)) (now (adjustments .entry)))
+        (sizesOf buckets bins))
+        (now («new_tops» .entry))
+        ⌝ }
+{
+    let count = h.block_count as usize;
+    let old = bin_count(h, tops, ends, blocks, adjustments);
+    copy(tops, count, new_tops);
+    if old < bins {
+        new_tops[count] = bins;
+    }
+}
+
+// The new intervals, by the case.
+fn write_intervals(
+    h: Header,
+    tops: &[u32],
+    ends: &[u32],
+    blocks: &[u32],
+    adjustments: &[u32],
+    buckets: u32,
+    bins: u32,
+    new_ends: &mut [u32],
+    new_blocks: &mut [u32],
+    new_adjustments: &mut [u32],
+)
+    requires { ⌜ LentSound h (now tops) (now ends) (now blocks) (now adjustments) ⌝ }
+    requires { ⌜ first (growthTests (lent h (now tops) (now ends) (now blocks) (now adjustments)) (sizesOf buckets bins)) ≡ 0 ⌝ }
+    requires { ⌜
+        Room (length (expanded (lent h (now tops) (now ends) (now blocks) (now adjustments)) (sizesOf buckets bins) .intervals))
+        (now «new_ends») (now «new_blocks») (now «new_adjustments»)
+        ⌝ }
+    ensures { λ _.
+        ⌜
+        Stored 0
+        (expanded
+        (lent h (now (tops .entry)) (now (ends .entry)) (now (blocks .entry)) (now (adjustments .entry)))
+        (sizesOf buckets bins)
+        .intervals)
+        (now («new_ends» .entry)) (now («new_blocks» .entry)) (now («new_adjustments» .entry))
+        (now («new_ends» .exit)) (now («new_blocks» .exit)) (now («new_adjustments» .exit))
+        ⌝ }
+{
+    let olds = dues_before(h, tops, ends, blocks, adjustments);
+    let dues = dues_after(h, tops, ends, blocks, adjustments, buckets, bins);
+    if some_fall(
+        h,
+        tops,
+        ends,
+        blocks,
+        adjustments,
+        buckets,
+        bins,
+        &olds,
+        &dues,
+    ) {
+        write_drained(
+            h,
+            tops,
+            ends,
+            blocks,
+            adjustments,
+            buckets,
+            bins,
+            &dues,
+            new_ends,
+            new_blocks,
+            new_adjustments,
+        );
+        return;
+    }
+    write_filled(
+        h,
+        tops,
+        ends,
+        blocks,
+        adjustments,
+        buckets,
+        bins,
+        &olds,
+        &dues,
+        new_ends,
+        new_blocks,
+        new_adjustments,
+    );
+}
+
+// The growth's table, into arrays with room for it.
+pub fn write_expanded(
+    h: Header,
+    tops: &[u32],
+    ends: &[u32],
+    blocks: &[u32],
+    adjustments: &[u32],
+    buckets: u32,
+    bins: u32,
+    new_tops: &mut [u32],
+    new_ends: &mut [u32],
+    new_blocks: &mut [u32],
+    new_adjustments: &mut [u32],
+)
+    requires { ⌜ LentSound h (now tops) (now ends) (now blocks) (now adjustments) ⌝ }
+    requires { ⌜ first (growthTests (lent h (now tops) (now ends) (now blocks) (now adjustments)) (sizesOf buckets bins)) ≡ 0 ⌝ }
+    requires { ⌜ roomShort (arrays (now «new_tops») (now «new_ends») (now «new_blocks») (now «new_adjustments»)) ≡ false ⌝ }
+    requires { ⌜ length (expanded (lent h (now tops) (now ends) (now blocks) (now adjustments)) (sizesOf buckets bins) .intervals) ≤ maxIntervals ⌝ }
+    ensures { λ _.
+        ⌜
+        arrays (now («new_tops» .exit)) (now («new_ends» .exit)) (now («new_blocks» .exit)) (now («new_adjustments» .exit))
+        ≡ written
+        (expanded
+        (lent h (now (tops .entry)) (now (ends .entry)) (now (blocks .entry)) (now (adjustments .entry)))
+        (sizesOf buckets bins))
+        (arrays
+        (now («new_tops» .entry))
+        (now («new_ends» .entry))
+        (now («new_blocks» .entry))
+        (now («new_adjustments» .entry)))
+        ⌝ }
+{
+    write_tops(h, tops, ends, blocks, adjustments, buckets, bins, new_tops);
+    write_intervals(
+        h,
+        tops,
+        ends,
+        blocks,
+        adjustments,
+        buckets,
+        bins,
+        new_ends,
+        new_blocks,
+        new_adjustments,
+    );
+}
