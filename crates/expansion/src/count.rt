@@ -17,7 +17,7 @@ ghost use Rattle.model.specs.Calls.{growthTests};
 ghost use Rattle.model.specs.Console.{sizes as sizesOf};
 ghost use Rattle.table.specs.Lent.{lent, LentSound};
 ghost use Rattle.expansion.specs.Given.{Drains, Fills};
-ghost use Rattle.expansion.specs.Stored.{made, pieceOf};
+ghost use Rattle.expansion.specs.Stored.{made, leftBehind, pieceOf};
 
 // The intervals of a growth's table, and the buckets that the growth moves.
 pub struct Growth {
@@ -43,6 +43,17 @@ fn part_count(plan: Plan, left: u32) -> u32
             adjustment: _,
         } => 2,
     }
+}
+
+// The new buckets behind old interval i: all of them behind the last one.
+pub fn left_behind(h: Header, buckets: u32, i: usize) -> u32
+    requires { ⌜ (i < h .«interval_count») × (h .buckets ≤ buckets) ⌝ }
+    ensures { λ r. ⌜ r ≡ leftBehind h buckets i ⌝ }
+{
+    if i + 1 < h.interval_count as usize {
+        return 0;
+    }
+    buckets - h.buckets
 }
 
 // Some old block is due less: one pass over the old intervals.
@@ -76,12 +87,11 @@ fn count_drained(
         0
         ⌝ }
 {
-    let last = h.interval_count as usize - 1;
     let mut intervals: u32 = 0;
     let mut start: u32 = 0;
     let mut moved: u32 = 0;
     let mut i: usize = 0;
-    while i < last {
+    while i < h.interval_count as usize {
         let plan = plan_at(
             h,
             tops,
@@ -95,28 +105,12 @@ fn count_drained(
             start,
             moved,
         );
-        intervals += part_count(plan, 0);
+        intervals += part_count(plan, left_behind(h, buckets, i));
         start = ends[i];
         moved = plan.moved;
         i += 1;
     }
-    let plan = plan_at(
-        h,
-        tops,
-        ends,
-        blocks,
-        adjustments,
-        buckets,
-        bins,
-        dues,
-        last,
-        start,
-        moved,
-    );
-    Growth {
-        intervals: intervals + part_count(plan, buckets - h.buckets),
-        moved: plan.moved,
-    }
+    Growth { intervals, moved }
 }
 
 // What block j gains in an interval of its own: nothing if it is the last interval's block, which gains in that interval.

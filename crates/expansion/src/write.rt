@@ -1,4 +1,5 @@
 // The writing pass of a growth. Every entry is written once: the last moved part gets its final end when it is written.
+use crate::count::left_behind;
 use crate::count::piece;
 use model::plan::Action;
 use model::plan::Plan;
@@ -63,6 +64,39 @@ fn write_interval(
     adjustments[o] = adjustment;
 }
 
+// Writes two intervals, at places o and o + 1.
+fn write_two(
+    end: u32,
+    block: u32,
+    adjustment: u32,
+    next_end: u32,
+    next_block: u32,
+    next_adjustment: u32,
+    o: usize,
+    ends: &mut [u32],
+    blocks: &mut [u32],
+    adjustments: &mut [u32],
+)
+    requires { ⌜ Room (o + 2) (now ends) (now blocks) (now adjustments) ⌝ }
+    ensures { λ _.
+        ⌜
+        Stored o (interval end block adjustment ∷ interval «next_end» «next_block» «next_adjustment» ∷ [])
+        (now (ends .entry)) (now (blocks .entry)) (now (adjustments .entry))
+        (now (ends .exit)) (now (blocks .exit)) (now (adjustments .exit))
+        ⌝ }
+{
+    write_interval(end, block, adjustment, o, ends, blocks, adjustments);
+    write_interval(
+        next_end,
+        next_block,
+        next_adjustment,
+        o + 1,
+        ends,
+        blocks,
+        adjustments,
+    );
+}
+
 // Writes what the plan for an old interval makes of it, from place o on: what moves goes to block g. `left` new buckets lengthen
 // what moves, or form an interval of block g behind one that stays. The next place.
 fn write_parts(
@@ -88,17 +122,21 @@ fn write_parts(
         ⌝ }
 {
     let action = plan.action;
+    let reach = end + left;
     match action {
         Action::Stay => {
-            write_interval(end, block, adjustment, o, ends, blocks, adjustments);
             if left == 0 {
+                write_interval(end, block, adjustment, o, ends, blocks, adjustments);
                 return o + 1;
             }
-            write_interval(
-                end + left,
+            write_two(
+                end,
+                block,
+                adjustment,
+                reach,
                 g,
                 end - plan.moved,
-                o + 1,
+                o,
                 ends,
                 blocks,
                 adjustments,
@@ -106,15 +144,25 @@ fn write_parts(
             o + 2
         }
         Action::Move { adjustment: shift } => {
-            write_interval(end + left, g, shift, o, ends, blocks, adjustments);
+            write_interval(reach, g, shift, o, ends, blocks, adjustments);
             o + 1
         }
         Action::Split {
             bucket,
             adjustment: shift,
         } => {
-            write_interval(bucket, block, adjustment, o, ends, blocks, adjustments);
-            write_interval(end + left, g, shift, o + 1, ends, blocks, adjustments);
+            write_two(
+                bucket,
+                block,
+                adjustment,
+                reach,
+                g,
+                shift,
+                o,
+                ends,
+                blocks,
+                adjustments,
+            );
             o + 2
         }
     }
@@ -149,12 +197,11 @@ fn write_drained(
         (now («new_ends» .exit)) (now («new_blocks» .exit)) (now («new_adjustments» .exit))
         ⌝ }
 {
-    let last = h.interval_count as usize - 1;
     let mut start: u32 = 0;
     let mut moved: u32 = 0;
     let mut o: usize = 0;
     let mut i: usize = 0;
-    while i < last {
+    while i < h.interval_count as usize {
         let plan = plan_at(
             h,
             tops,
@@ -168,6 +215,7 @@ fn write_drained(
             start,
             moved,
         );
+        let left = left_behind(h, buckets, i);
         let end = ends[i];
         o = write_parts(
             plan,
@@ -175,7 +223,7 @@ fn write_drained(
             blocks[i],
             adjustments[i],
             h.block_count,
-            0,
+            left,
             o,
             new_ends,
             new_blocks,
@@ -185,32 +233,6 @@ fn write_drained(
         moved = plan.moved;
         i += 1;
     }
-    let plan = plan_at(
-        h,
-        tops,
-        ends,
-        blocks,
-        adjustments,
-        buckets,
-        bins,
-        dues,
-        last,
-        start,
-        moved,
-    );
-    let left = buckets - h.buckets;
-    write_parts(
-        plan,
-        h.buckets,
-        blocks[last],
-        adjustments[last],
-        h.block_count,
-        left,
-        o,
-        new_ends,
-        new_blocks,
-        new_adjustments,
-    );
 }
 
 // No old block is due less: one pass over the blocks, whose pieces begin at bucket `start` and go behind the old intervals.

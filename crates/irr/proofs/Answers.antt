@@ -55,6 +55,7 @@ use Rattle.model.specs.declared.reply.PlaceReply.{PlaceReply}
 use Rattle.model.specs.declared.reply.FindReply.{FindReply}
 use Rattle.model.specs.declared.reply.BinSizeReply.{BinSizeReply}
 use Rattle.model.proofs.Counts.{below-or}
+use Rattle.model.proofs.Refusals
 use Rattle.model.proofs.Refusals.{or-right, first-clear, first-here, first-skip, first-found, first-after, accepted}
 use Rattle.model.proofs.Tables.{getD-from}
 use Rattle.model.proofs.Bytes.{saved-same}
@@ -62,8 +63,7 @@ use Rattle.model.proofs.Soundness.{sound-iff, table-numbered}
 
 -- a refused call gives its refusal
 pub refused : {A : Type 0} (r : ℕ) (a b : A) → (r ≡ 0 → ⊥) → b ≡ answer r a b
-unfolding answer if_then_else_
-refused r a b n = rw (ne-eqb r 0 n)
+refused r a b n = sym (Refusals.refused r a b n)
 
 module _ (h : Header) (a : Arrays) (r : ℕ) (e : r ≡ first (tableTests h a)) where
   -- a table that the check passes is sound

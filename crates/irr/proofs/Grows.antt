@@ -34,7 +34,7 @@ refusal r = record { refusal = r; moved = 0; header = noHeader }
 
 -- a reply that is another
 pub grow-same
-  : (t : Table) (s : Shape) (out left : Arrays) (z w : TableReply) → z ≡ w → GrowReply t s out left w → GrowReply t s out left z
+    : (t : Table) (s : Shape) (out left : Arrays) (z w : TableReply) → z ≡ w → GrowReply t s out left w → GrowReply t s out left z
 grow-same t s out left z w e g = record { reply = e ∙ g .reply; lent = g .lent }
 
 module _ (t : Table) (s : Shape) (out : Arrays) (r : ℕ) (e : r ≡ first (growthTests t s)) where

@@ -127,7 +127,7 @@ module _ (b n : ℕ) (some : 1 ≤ n) where
   next-mod : suc b % n ≡ suc (b % n) % n
   next-mod = ap (λ m. m % n) one-more ∙ mul-add-mod-self-left n (b / n) (suc (b % n))
 
-abbrev shaped : ℕ → ℕ → Shape
+abbrev pub shaped : ℕ → ℕ → Shape
 shaped b n = record { buckets = b; bins = n }
 
 -- one bucket more raises the due of bin B % n by 1, and no other

@@ -33,20 +33,11 @@ use Rattle.model.specs.declared.table.Header.{Header}
 use Rattle.model.proofs.Counts.{bit-cases, below-or}
 use Rattle.model.proofs.Listed.{Placed, size-same, tells-same, tells-placed}
 use Rattle.model.proofs.Wells.{Well, tops-length, sound-well, well-sound}
-use Rattle.model.proofs.Growths.{
-  Accepted,
-  accepted,
-  first-passes,
-  old-below,
-  tops-last,
-  new-rise,
-  block-limits,
-  none-falls,
-  some-more,
-  Grown,
-}
+use Rattle.model.proofs.Growths.{Accepted, accepted, old-below, tops-last, new-rise, block-limits, none-falls, some-more, Grown}
 use Rattle.model.proofs.Filled.{filledBlock, filled-old, filled-grown}
 use Rattle.model.proofs.Drained.{drainedBlock, drained-stays, drained-moves, drained-new, drained-kept, drained-grown}
+use Rattle.model.proofs.Refusals.{first-number, first-both}
+use Rattle.model.proofs.Soundness.{table-numbered, growth-numbered}
 
 -- the new table with given intervals
 abbrev pub grownTable : Table → Shape → List Interval → Table
@@ -188,29 +179,6 @@ expand-stays h a s sound q =
 
 -- SOUNDNESS
 
--- every test has a number
-abbrev Numbered : List Test → Type 0
-Numbered [] = Unit {0}
-Numbered (t ∷ ts) = (1 ≤ t .0) × Numbered ts
-
--- where none of two lists of tests refuses, neither list does
-first-append
-    : (ts us : List Test) → Numbered ts → first (ts ++ us) ≡ 0 → (first ts ≡ 0) × (first us ≡ 0)
-unfolding first if_then_else_
-first-append [] us n h = (refl, h)
-first-append (t ∷ ts) us n h =
-    let (passed, rest) = first-passes (t .0) (t .1) (ts ++ us) (n .0) h in
-    let (left, right) = first-append ts us (n .1) rest in
-    (rw passed left, right)
-
-table-numbered : (h : Header) (a : Arrays) → Numbered (tableTests h a)
-unfolding tableTests
-table-numbered h a = omega arith
-
-growth-numbered : (t : Table) (s : Shape) → Numbered (growthTests t s)
-unfolding growthTests sizeTests
-growth-numbered t s = omega arith
-
 -- what an accepted call's tests say
 pub expand-passes
     : (h : Header) (a : Arrays) (s : Shape) (out : Arrays) → expandRefusal h a s out ≡ 0
@@ -219,10 +187,10 @@ pub expand-passes
     × (length (expanded (table h a) s .intervals) ≤ maxIntervals)
 unfolding expandRefusal intervalsFull tableTests
 expand-passes h a s out q =
-    let (room, q₁) = first-passes 21 (roomShort out) _ (omega arith) q in
-    let (tests, q₂) = first-append (tableTests h a) _ (table-numbered h a) q₁ in
-    let (growth, q₃) = first-append (growthTests (table h a) s) _ (growth-numbered (table h a) s) q₂ in
-    let (full, q₄) = first-passes 8 (intervalsFull (table h a) s) [] (omega arith) q₃ in
+    let (room, q₁) = first-number 21 (roomShort out) _ (omega arith) q in
+    let (tests, q₂) = first-both (tableTests h a) _ (table-numbered h a) q₁ in
+    let (growth, q₃) = first-both (growthTests (table h a) s) _ (growth-numbered (table h a) s) q₂ in
+    let (full, q₄) = first-number 8 (intervalsFull (table h a) s) [] (omega arith) q₃ in
     (tests, growth, ltb-false _ _ full)
 
 -- the table of an accepted growth is sound, as the check answers 0 just for sound tables

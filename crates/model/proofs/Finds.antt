@@ -44,19 +44,13 @@ use Rattle.model.proofs.Counts.{bit-cases, below-or, and-both, and-left
 use Rattle.model.proofs.Intervals.{before-mono, block-at}
 use Rattle.model.proofs.Ranks.{interval-of, rank-adjusted, block-below, rank-before, rank-once, rank-reached}
 use Rattle.model.proofs.Places.{below-due, due-below, some-bins, bin-within, bin-block, bin-of, bin-size}
+use Rattle.model.proofs.Tables.{getD-from}
 
 -- THE SEARCH FOR A RANK
 
 -- interval i as it is lent
 abbrev pub entry : Arrays → ℕ → Interval
 entry a i = interval (getD (a .ends) i 0) (getD (a .blocks) i 0) (getD (a .adjustments) i 0)
-
--- an entry of a list made entry by entry
-getD-from : {A : Type 0} (f : ℕ → A) (d : A) (n i m : ℕ) → m < n → getD (from f i n) m d ≡ f (i + m)
-unfolding from
-getD-from f d zero i m l = absurd (not-suc-le-zero l)
-getD-from f d (suc n) i zero l = ap f (sym (add-zero i))
-getD-from f d (suc n) i (suc m) l = getD-from f d n (suc i) m (le-of-suc-le-suc l) ∙ ap f (omega arith)
 
 -- interval i is of block j and its ranks include r
 pub record Including (a : Arrays) (i j r : ℕ) : Type 0 where
@@ -115,7 +109,7 @@ holder-bucket
     → holderBucket (table h a .intervals) r (In m) ≡ r + getD (a .adjustments) m 0
 unfolding table holderBucket
 holder-bucket h a r m l =
-    ap (λ v. r + v .adjustment) (getD-from (entry a) (interval 0 0 0) (h .«interval_count») 0 m l)
+    ap (λ v. r + v .adjustment) (getD-from (entry a) 0 (h .«interval_count») m (interval 0 0 0) l)
     ∙ ap (λ m. r + getD (a .adjustments) m 0) (zero-add m)
 
 module _ (h : Header) (a : Arrays) (s : Sound h a) where

@@ -24,34 +24,17 @@ use Rattle.model.proofs.Counts.{below-or, all-at, all-holds, sum-le, su
 use Rattle.model.proofs.Dues.{one-way, block-dues-below, dues-below, dues-sum}
 use Rattle.model.proofs.Intervals.{Rising}
 use Rattle.model.proofs.Listed.{Tells, tells-placed, size-zero, size-other, sizes-all}
-use Rattle.model.proofs.Wells.{before-same, due-same, held-size, Well}
+use Rattle.model.proofs.Wells.{due-same, held-size, Well}
+use Rattle.model.proofs.Refusals.{first-number, or-split, inside}
+use Rattle.model.proofs.Tables.{before-same}
 
 -- TESTS
-
--- where no test refuses, the first of them does not, nor the rest
-pub first-passes
-    : (n : ℕ) (t : Bool) (rest : List Test) → 1 ≤ n → first ((n, t) ∷ rest) ≡ 0 → (t ≡ false) × (first rest ≡ 0)
-unfolding first if_then_else_
-first-passes n true rest l h = absurd (omega arith)
-first-passes n false rest l h = (refl, h)
-
-or-false : (a b : Bool) → a or b ≡ false → (a ≡ false) × (b ≡ false)
-unfolding _or_
-or-false true b h = absurd (false≢true (sym h))
-or-false false b h = (refl, h)
 
 -- two tests that don't both hold, of which the first does
 and-false : (a b : Bool) → a and b ≡ false → a ≡ true → b ≡ false
 unfolding _and_
 and-false true b h e = h
 and-false false b h e = absurd (false≢true e)
-
-outside-false : (limit x : ℕ) → outside limit x ≡ false → (1 ≤ x) × (x ≤ limit)
-unfolding outside
-outside-false limit x h =
-    let (none, past) = or-false (eqb x 0) (ltb limit x) h in
-    let some = eqb-false x 0 none in
-    (⊎-elim (λ l. absurd (some (omega arith))) (λ l. l) (below-or x 1), ltb-false limit x past)
 
 -- what the tests of a growth say
 pub record Accepted (t : Table) (s : Shape) : Type 0 where
@@ -67,15 +50,15 @@ pub record Accepted (t : Table) (s : Shape) : Type 0 where
 pub accepted : (t : Table) (s : Shape) → first (growthTests t s) ≡ 0 → Accepted t s
 unfolding growthTests sizeTests sizeOutside fewBuckets shrinks blocksFull
 accepted t s h =
-    let (sizes, h₂) = first-passes 1 (sizeOutside s) _ (omega arith) h in
-    let (few, h₃) = first-passes 2 (fewBuckets s) _ (omega arith) h₂ in
-    let (shrunk, h₄) = first-passes 3 (shrinks t s) _ (omega arith) h₃ in
-    let (same, h₅) = first-passes 4 (unchanged t s) _ (omega arith) h₄ in
-    let (full, h₆) = first-passes 5 (blocksFull t s) _ (omega arith) h₅ in
-    let (b, n) = or-false _ _ sizes in
-    let (lessBuckets, lessBins) = or-false _ _ shrunk in
-    let (someBuckets, bucketLimit) = outside-false maxBuckets (s .buckets) b in
-    let (someBins, binLimit) = outside-false maxBins (s .bins) n in
+    let (sizes, h₂) = first-number 1 (sizeOutside s) _ (omega arith) h in
+    let (few, h₃) = first-number 2 (fewBuckets s) _ (omega arith) h₂ in
+    let (shrunk, h₄) = first-number 3 (shrinks t s) _ (omega arith) h₃ in
+    let (same, h₅) = first-number 4 (unchanged t s) _ (omega arith) h₄ in
+    let (full, h₆) = first-number 5 (blocksFull t s) _ (omega arith) h₅ in
+    let (b, n) = or-split _ _ sizes in
+    let (lessBuckets, lessBins) = or-split _ _ shrunk in
+    let (someBuckets, bucketLimit) = inside maxBuckets (s .buckets) b in
+    let (someBins, binLimit) = inside maxBins (s .bins) n in
     record {
       someBuckets = someBuckets;
       bucketLimit = bucketLimit;

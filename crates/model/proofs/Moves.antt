@@ -43,34 +43,7 @@ use Rattle.model.proofs.Dues.{block-dues-below}
 use Rattle.model.proofs.Balances.{sizes-below}
 use Rattle.model.proofs.Ranks.{block-below}
 use Rattle.model.proofs.Places.{some-bins, bin-within, bin-of}
-
--- WHAT PASSED TESTS SAY
-
--- neither of two tests holds where their `or` does not
-or-false : (a b : Bool) → a or b ≡ false → (a ≡ false) × (b ≡ false)
-unfolding _or_
-or-false true b h = absurd (false≢true (sym h))
-or-false false b h = (refl, h)
-
--- where no test refuses, the first does not hold, and none of the rest refuses
-first-passed : (n : ℕ) (t : Bool) (ts : List Test) → 1 ≤ n → first ((n, t) ∷ ts) ≡ 0 → (t ≡ false) × (first ts ≡ 0)
-unfolding first if_then_else_
-first-passed n true ts some h = absurd (omega arith)
-first-passed n false ts some h = (refl, h)
-
--- no test has the number 0
-abbrev Numbered : List Test → Type 0
-Numbered [] = Unit {0}
-Numbered (t ∷ ts) = (1 ≤ t .0) × Numbered ts
-
--- where no test of two lists refuses, none of either does
-pub first-append : (ts us : List Test) → Numbered ts → first (ts ++ us) ≡ 0 → (first ts ≡ 0) × (first us ≡ 0)
-unfolding first if_then_else_
-first-append [] us some h = (refl, h)
-first-append (t ∷ ts) us some h =
-    let passed = first-passed (t .0) (t .1) (ts ++ us) (some .0) h in
-    let rest = first-append ts us (some .1) (passed .1) in
-    (rw (passed .0) (rest .0), rest .1)
+use Rattle.model.proofs.Refusals.{first-both, first-number, or-split}
 
 -- THE NEW TOPS
 
@@ -238,8 +211,8 @@ module _ (h : Header) (a : Arrays) (s : Shape) (sound : Sound h a) where
     pub grows : Grows (shape (table h a)) s
     unfolding growthTests sizeTests shrinks shape
     grows =
-        let third = first-append (sizeTests s) _ (omega arith) accepted .1 in
-        let tests = or-false _ _ (first-passed 3 _ _ (omega arith) third .0) in
+        let third = first-both (sizeTests s) _ (omega arith) accepted .1 in
+        let tests = or-split _ _ (first-number 3 _ _ (omega arith) third .0) in
         record {
           some = omega (arith, bin-within h a sound 0 0 (sound .someBlocks) (some-bins h a sound 0 (sound .someBlocks)));
           buckets = ltb-false _ _ (tests .0);

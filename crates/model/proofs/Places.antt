@@ -37,7 +37,7 @@ use Rattle.model.specs.Balance.{size}
 use Rattle.model.specs.declared.table.Header.{Header}
 use Rattle.model.proofs.Counts.{bit-lt, bit-ge, bit-le, bit-eq, bit-ne, below-or, sum-ext}
 use Rattle.model.proofs.Dues.{due-more, due-less, closed-form}
-use Rattle.model.proofs.Balances.{modulo-size}
+use Rattle.model.proofs.Balances.{modulo-size, shaped}
 use Rattle.model.proofs.Intervals.{Rising, before-mono}
 use Rattle.model.proofs.Ranks.{sum-ranks, entry-of, block-below, rank-held}
 
@@ -50,9 +50,6 @@ bit-same a b c d f g =
     ]
 
 -- DUES
-
-abbrev pub shaped : ℕ → ℕ → Shape
-shaped b n = record { buckets = b; bins = n }
 
 -- a due as B / n and a bit
 due-bit : (s : Shape) (y : ℕ) → due s y ≡ s .buckets / s .bins + bit (ltb y (s .buckets % s .bins))

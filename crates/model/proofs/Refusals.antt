@@ -24,6 +24,10 @@ unfolding _or_
 or-right true b h = absurd (false≢true (sym h))
 or-right false b h = h
 
+-- both at once
+pub or-split : (a b : Bool) → a or b ≡ false → (a ≡ false) × (b ≡ false)
+or-split a b h = (or-left a b h, or-right a b h)
+
 pub or-both : (a b : Bool) → a ≡ false → b ≡ false → a or b ≡ false
 unfolding _or_
 or-both a b h k = rw (h, k)
@@ -55,6 +59,11 @@ first-clear t ts n = go (t .1)
     go : (b : Bool) → (if b then t .0 else first ts) ≡ 0 → (b ≡ false) × (first ts ≡ 0)
     go true e = absurd (n e)
     go false e = (refl, e)
+
+-- the same of a number and a test
+pub first-number
+    : (n : ℕ) (t : Bool) (ts : List Test) → 1 ≤ n → first ((n, t) ∷ ts) ≡ 0 → (t ≡ false) × (first ts ≡ 0)
+first-number n t ts l = first-clear (n, t) ts (λ z. omega arith)
 
 -- and the other way: `first-pass` test by test, `first-none` at the end
 pub first-pass : (t : Test) (ts : List Test) → t .1 ≡ false → first ts ≡ 0 → first (t ∷ ts) ≡ 0
@@ -110,3 +119,8 @@ first-both (t ∷ ts) us n e =
 pub accepted : {A : Type 0} (r : ℕ) (a b : A) → r ≡ 0 → answer r a b ≡ a
 unfolding answer if_then_else_
 accepted r a b h = rw h
+
+-- and a refused one its refusal
+pub refused : {A : Type 0} (r : ℕ) (a b : A) → (r ≡ 0 → ⊥) → answer r a b ≡ b
+unfolding answer if_then_else_
+refused r a b h = rw (ne-eqb r 0 h)

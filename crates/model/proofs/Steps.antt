@@ -190,14 +190,10 @@ module _ (h : Header) (a : Arrays) (s : Shape) where
         [])
         (sym e)
 
-    -- the buckets moved in all are then known
-    pub walk-last : Walk i start w → i + 1 ≡ h .«interval_count» → p .moved ≡ movedAfter t s 0 (t .intervals) 0
-    unfolding movedAfter
-    walk-last k n =
-        ap (λ (q : Plan). q .moved) e
-        ∙ ap (λ is. movedAfter t s start is w)
-        (sym (ahead-next h a i l ∙ ap (λ is. lentInterval a i ∷ is) (ahead-none h a (i + 1) (omega arith))))
-        ∙ k .after
+  -- past the last interval the buckets moved in all are known
+  pub walk-end : (i start w : ℕ) → h .«interval_count» ≤ i → Walk i start w → w ≡ movedAfter t s 0 (t .intervals) 0
+  unfolding movedAfter
+  walk-end i start w l k = ap (λ is. movedAfter t s start is w) (sym (ahead-none h a i l)) ∙ k .after
 
   -- the walk makes the drained intervals
   pub walked-drained

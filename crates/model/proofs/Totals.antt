@@ -38,27 +38,19 @@ use Rattle.model.specs.declared.table.Header.{Header}
 use Rattle.model.specs.declared.reply.TableReply.{TableReply}
 use Rattle.model.proofs.Counts.{below-or}
 use Rattle.model.proofs.Rivals.{least-of-all, least-decided}
-use Rattle.model.proofs.Moves.{first-append, grows}
+use Rattle.model.proofs.Moves.{grows}
+use Rattle.model.proofs.Refusals.{first-both, accepted, refused}
 
 -- ANSWERS
-
--- what a call gives where it is accepted, and where it is refused
-answer-accepted : {A : Type 0} (r : ℕ) (a b : A) → r ≡ 0 → answer r a b ≡ a
-unfolding answer if_then_else_
-answer-accepted r a b e = rw (eq-eqb r 0 e)
-
-answer-refused : {A : Type 0} (r : ℕ) (a b : A) → (r ≡ 0 → ⊥) → answer r a b ≡ b
-unfolding answer if_then_else_
-answer-refused r a b e = rw (ne-eqb r 0 e)
 
 -- the moved count of a reply
 moved-accepted : (r m : ℕ) (t : Table) → r ≡ 0 → tableReply r m t .moved ≡ m
 unfolding tableReply
-moved-accepted r m t e = ap (λ (p : TableReply). p .moved) (answer-accepted r _ _ e)
+moved-accepted r m t e = ap (λ (p : TableReply). p .moved) (accepted r _ _ e)
 
 moved-refused : (r m : ℕ) (t : Table) → (r ≡ 0 → ⊥) → tableReply r m t .moved ≡ 0
 unfolding tableReply
-moved-refused r m t e = ap (λ (p : TableReply). p .moved) (answer-refused r _ _ e)
+moved-refused r m t e = ap (λ (p : TableReply). p .moved) (refused r _ _ e)
 
 -- an accepted growth passes the tests of its sizes
 growth-accepted
@@ -67,7 +59,7 @@ unfolding expandRefusal tableTests growthTests sizeTests
 growth-accepted h a s out e =
     let ts : List Test = (21, roomShort out) ∷ tableTests h a in
     let us = growthTests (table h a) s in
-    first-append ts us (omega arith) (first-append (ts ++ us) _ (omega arith) e .0) .1
+    first-both ts us (omega arith) (first-both (ts ++ us) _ (omega arith) e .0) .1
 
 -- SIZES
 
@@ -105,7 +97,7 @@ shape-left
     → shape (table (tableReply r m t .header) (arraysAfter r t out)) ≡ shape t
 unfolding tableReply arraysAfter
 shape-left r m t out e =
-    ap₂ (λ (p : TableReply) a. shape (table (p .header) a)) (answer-accepted r _ _ e) (answer-accepted r _ _ e)
+    ap₂ (λ (p : TableReply) a. shape (table (p .header) a)) (accepted r _ _ e) (accepted r _ _ e)
     ∙ shape-written t out
 
 -- A LIST OF CALLS
@@ -133,12 +125,12 @@ module _ (st : State) (c : Call) (cs : List Call) where
       omega (
         arith,
         moved-refused (refusalOf st c) (moved (old st) (new st c)) (new st c) e,
-        ap (λ st. movedTotal st cs) (answer-refused (refusalOf st c) (left st c) st e),
+        ap (λ st. movedTotal st cs) (refused (refusalOf st c) (left st c) st e),
       )
 
   shapes-same : (refusalOf st c ≡ 0 → ⊥) → shapes st (c ∷ cs) ≡ shapes st cs
   unfolding shapes next
-  shapes-same e = answer-refused _ _ _ e ∙ ap (λ st. shapes st cs) (answer-refused _ _ _ e)
+  shapes-same e = refused _ _ _ e ∙ ap (λ st. shapes st cs) (refused _ _ _ e)
 
   -- an accepted one adds its moved count and its sizes
   moved-more : refusalOf st c ≡ 0 → movedTotal st (c ∷ cs) ≡ moved (old st) (new st c) + movedTotal (left st c) cs
@@ -147,12 +139,12 @@ module _ (st : State) (c : Call) (cs : List Call) where
       omega (
         arith,
         moved-accepted (refusalOf st c) (moved (old st) (new st c)) (new st c) e,
-        ap (λ st. movedTotal st cs) (answer-accepted (refusalOf st c) (left st c) st e),
+        ap (λ st. movedTotal st cs) (accepted (refusalOf st c) (left st c) st e),
       )
 
   shapes-more : refusalOf st c ≡ 0 → shapes st (c ∷ cs) ≡ c .sizes ∷ shapes (left st c) cs
   unfolding shapes next
-  shapes-more e = answer-accepted _ _ _ e ∙ ap (λ st. c .sizes ∷ shapes st cs) (answer-accepted _ _ _ e)
+  shapes-more e = accepted _ _ _ e ∙ ap (λ st. c .sizes ∷ shapes st cs) (accepted _ _ _ e)
 
 -- the table that an accepted growth leaves has the sizes asked for
 left-shape

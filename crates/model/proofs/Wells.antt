@@ -32,6 +32,7 @@ use Rattle.model.specs.Balance.{size}
 use Rattle.model.specs.declared.table.Header.{Header}
 use Rattle.model.proofs.Intervals.{Rising, block-at, held-others}
 use Rattle.model.proofs.Listed.{Told, Tells, tells-same}
+use Rattle.model.proofs.Tables.{before-same, getD-over}
 
 -- ENTRIES
 
@@ -41,24 +42,12 @@ unfolding before
 before-cons xs zero = refl
 before-cons xs (suc i) = refl
 
--- two lists with the same first n entries have the same ones before them
-pub before-same
-    : (xs ys : List ℕ) (n : ℕ) → ((i : ℕ) → i < n → getD xs i 0 ≡ getD ys i 0) → (i : ℕ) → i ≤ n → before xs i ≡ before ys i
-unfolding before
-before-same xs ys n e zero l = refl
-before-same xs ys n e (suc i) l = e i l
-
--- and so the same dues of their first n blocks
+-- two lists with the same first n entries have the same dues of their first n blocks
 pub due-same
     : (s : Shape) (xs ys : List ℕ) (n : ℕ) → ((i : ℕ) → i < n → getD xs i 0 ≡ getD ys i 0)
     → (j : ℕ) → j < n → dueOfBlock s xs j ≡ dueOfBlock s ys j
 unfolding dueOfBlock firstBin blockBins
 due-same s xs ys n e j l = rw (before-same xs ys n e j (omega arith), e j l)
-
--- new entries over old ones
-pub over-at : (new old : List ℕ) (i : ℕ) → i < length new → getD (over new old) i 0 ≡ getD new i 0
-unfolding over
-over-at new old i l = List·getD-append new (drop (length new) old) 0 i l
 
 pub over-long : (new old : List ℕ) → length new ≤ length (over new old)
 unfolding over
@@ -101,7 +90,7 @@ pub start-at
     → before (over (map (λ v. v .end) is) old) i ≡ getD (0 ∷ map (λ v. v .end) is) i 0
 start-at is old i l =
     before-same _ (map (λ v. v .end) is) (length is)
-    (λ i l. over-at (map (λ v. v .end) is) old i (omega (arith, length-map is (λ v. v .end))))
+    (λ i l. getD-over (map (λ v. v .end) is) old i (omega (arith, length-map is (λ v. v .end))))
     i l
     ∙ before-cons (map (λ v. v .end) is) i
 
@@ -322,7 +311,7 @@ module _ (u : Table) (w : Well u) (out : Arrays) where
       }
     where
       top : (j : ℕ) → j < length (u .tops) → getD (over (u .tops) (out .tops)) j 0 ≡ getD (u .tops) j 0
-      top j l = over-at (u .tops) (out .tops) j l
+      top j l = getD-over (u .tops) (out .tops) j l
 
       firsts : (j : ℕ) → j ≤ length (u .tops) → before (over (u .tops) (out .tops)) j ≡ before (u .tops) j
       firsts = before-same (over (u .tops) (out .tops)) (u .tops) (length (u .tops)) top

@@ -25,7 +25,7 @@ same-length-4 : tie.Need-same-length-4
 same-length-4 c = search needs
 
 returns : tie.Need-returns
-returns c = 
+returns c =
     let short = sym (c .before .before .room-short .ensures) ∙ c .before .if1 .taken in
     let answer = expand-short _ _ _ _ short in
     (c .refused-table .ensures ∙ answer .0, answer .1)
@@ -49,15 +49,16 @@ same-length-8 : tie.Need-same-length-8
 same-length-8 c = search needs
 
 returns-2 : tie.Need-returns-2
-returns-2 c = 
+returns-2 c =
     let long = sym (c .before .before .before .before .room-short .ensures) ∙ c .before .before .before .if1 .left in
     let answer = expand-refused _ _ _ _ long _ (c .before .before .check .ensures) (c .before .if2 .taken) in
     (c .refused-table2 .ensures ∙ answer .0, answer .1)
 
 grown-requires : tie.Need-grown-requires
-grown-requires c κs = 
-    (checked _ _ _ (c .before .before .before .before .before .check .ensures) (c .before .before .before .before .if2 .left),
-    sym (c .before .before .before .before .before .before .before .room-short .ensures) ∙ c .before .before .before .before .before .before .if1 .left)
+grown-requires c κs = (
+  checked _ _ _ (c .before .before .before .before .before .check .ensures) (c .before .before .before .before .if2 .left),
+  sym (c .before .before .before .before .before .before .before .room-short .ensures) ∙ c .before .before .before .before .before .before .if1 .left,
+)
 
 same-length-9 : tie.Need-same-length-9
 same-length-9 c = search needs
@@ -72,7 +73,7 @@ same-length-12 : tie.Need-same-length-12
 same-length-12 c = search needs
 
 returns-3 : tie.Need-returns-3
-returns-3 c = 
+returns-3 c =
     let long = sym (c .before .before .before .before .before .before .before .before .before .before .before .before .before .before .before .before .room-short .ensures) ∙ c .before .before .before .before .before .before .before .before .before .before .before .before .before .before .before .if1 .left in
     expand-accepted _ _ _ _ long _ (c .before .before .before .before .before .before .before .before .before .before .before .before .before .before .check .ensures) _ _ (c .before .before .before .before .before .before .before .before .before .before .before .before .before .if2 .left) (c .before .before .before .before .before .before .before .before .grown .ensures)
 

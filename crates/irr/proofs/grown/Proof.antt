@@ -13,7 +13,7 @@ refused-table-requires : tie.Need-refused-table-requires
 refused-table-requires c κs = search needs
 
 returns : tie.Need-returns
-returns c = 
+returns c =
     grow-same _ _ _ _ _ _ (c .refused-table .ensures)
     (grow-refused _ _ _ _ (c .before .before .growth-refusal .ensures) (c .before .if1 .taken))
 
@@ -24,7 +24,7 @@ refused-table-requires-2 : tie.Need-refused-table-requires-2
 refused-table-requires-2 c κs = search needs
 
 returns-2 : tie.Need-returns-2
-returns-2 c = 
+returns-2 c =
     grow-same _ _ _ _ _ _ (c .refused-table2 .ensures)
     (grow-full _ _ _ _ (c .before .before .before .before .before .growth-refusal .ensures) (c .before .before .before .before .if1 .left) (omega (arith, c .before .before .before .measure .ensures .0)))
 
@@ -32,10 +32,13 @@ blocks-after-requires : tie.Need-blocks-after-requires
 blocks-after-requires c κs = search needs
 
 write-expanded-requires : tie.Need-write-expanded-requires
-write-expanded-requires c κs = 
-    (search needs,
-    (sym (c .before .before .before .before .before .before .before .before .before .growth-refusal .ensures) ∙ c .before .before .before .before .before .before .before .before .if1 .left,
-    (search needs, omega (arith, c .before .before .before .before .before .before .before .measure .ensures .0))))
+write-expanded-requires c κs = (
+  search needs,
+  (
+    sym (c .before .before .before .before .before .before .before .before .before .growth-refusal .ensures) ∙ c .before .before .before .before .before .before .before .before .if1 .left,
+    (search needs, omega (arith, c .before .before .before .before .before .before .before .measure .ensures .0)),
+  ),
+)
 
 same-length : tie.Need-same-length
 same-length c = search needs
@@ -50,7 +53,7 @@ same-length-4 : tie.Need-same-length-4
 same-length-4 c = search needs
 
 returns-3 : tie.Need-returns-3
-returns-3 c = 
+returns-3 c =
     grow-accepted _ _ _ _ (c .before .before .before .before .before .before .before .before .before .before .before .before .before .before .before .before .before .before .growth-refusal .ensures) _ _ _ _ (c .before .before .before .before .before .before .before .before .before .before .before .before .before .before .before .before .before .if1 .left) (c .before .before .before .before .before .before .before .before .before .before .before .before .before .before .if2 .left)
     (c .before .before .before .before .before .before .before .before .before .before .before .before .before .blocks-after .ensures)
     (c .before .before .before .before .before .before .before .before .before .before .before .before .before .before .before .before .measure .ensures .0)

@@ -205,5 +205,3 @@ write-pieces-spec =
     same-length-2
     same-length-3
     returns)
-
--- x
