@@ -1,0 +1,406 @@
+// The directory, `book`: the bin and position of every bucket, now and before the latest growth, the tops of the blocks, and
+// the sizes. It knows no intervals: a growth deals single buckets.
+use crate::total::NONE;
+use crate::total::minus;
+use crate::total::plus;
+use crate::total::quotient;
+use crate::total::remainder;
+ghost use Prim.Native.Nat.{_<_};
+
+// Four columns of 4,096 buckets; 65 tops; B, n and the number of blocks, and B before.
+pub const LENGTH: usize = 16_453;
+
+pub const MOST: u32 = 4_096;
+
+const BIN: usize = 0;
+
+const POSITION: usize = 4_096;
+
+const OLD_BIN: usize = 8_192;
+
+const OLD_POSITION: usize = 12_288;
+
+const TOPS: usize = 16_384;
+
+const BUCKETS: usize = 16_449;
+
+const BINS: usize = 16_450;
+
+const BLOCKS: usize = 16_451;
+
+const OLD_BUCKETS: usize = 16_452;
+
+fn get(book: &[u32; 16453], i: usize) -> u32 {
+    if i < LENGTH {
+        return book[i];
+    }
+    NONE
+}
+
+fn put(book: &mut [u32; 16453], i: usize, x: u32) {
+    if i < LENGTH {
+        book[i] = x;
+    }
+}
+
+fn cell(book: &[u32; 16453], column: usize, bucket: u32) -> u32
+    requires { ⌜ column < 16384 ⌝ }
+{
+    if bucket < MOST {
+        return get(book, column + bucket as usize);
+    }
+    NONE
+}
+
+pub fn bin(book: &[u32; 16453], bucket: u32) -> u32 {
+    cell(book, BIN, bucket)
+}
+
+pub fn position(book: &[u32; 16453], bucket: u32) -> u32 {
+    cell(book, POSITION, bucket)
+}
+
+pub fn old_bin(book: &[u32; 16453], bucket: u32) -> u32 {
+    cell(book, OLD_BIN, bucket)
+}
+
+pub fn old_position(book: &[u32; 16453], bucket: u32) -> u32 {
+    cell(book, OLD_POSITION, bucket)
+}
+
+pub fn buckets(book: &[u32; 16453]) -> u32 {
+    get(book, BUCKETS)
+}
+
+pub fn bins(book: &[u32; 16453]) -> u32 {
+    get(book, BINS)
+}
+
+pub fn block_count(book: &[u32; 16453]) -> u32 {
+    get(book, BLOCKS)
+}
+
+pub fn old_buckets(book: &[u32; 16453]) -> u32 {
+    get(book, OLD_BUCKETS)
+}
+
+fn set(book: &mut [u32; 16453], bucket: u32, bin: u32, position: u32) {
+    if bucket < MOST {
+        put(book, BIN + bucket as usize, bin);
+        put(book, POSITION + bucket as usize, position);
+    }
+}
+
+fn top(book: &[u32; 16453], block: u32) -> u32 {
+    if block < 65 {
+        return get(book, TOPS + block as usize);
+    }
+    NONE
+}
+
+fn set_top(book: &mut [u32; 16453], block: u32, top: u32) {
+    if block < 65 {
+        put(book, TOPS + block as usize, top);
+    }
+}
+
+fn first_bin(book: &[u32; 16453], block: u32) -> u32 {
+    if block == 0 {
+        return 0;
+    }
+    top(book, block - 1)
+}
+
+fn bins_of(book: &[u32; 16453], block: u32) -> u32 {
+    minus(top(book, block), first_bin(book, block))
+}
+
+// The block of a bin: the first whose top is above it.
+fn block_of(book: &[u32; 16453], bin: u32) -> u32 {
+    let mut block: u32 = 0;
+    while block < 65 {
+        if bin < top(book, block) {
+            return block;
+        }
+        block += 1;
+    }
+    NONE
+}
+
+// The due size of a bin.
+pub fn due_size(buckets: u32, bins: u32, bin: u32) -> u32 {
+    let size = quotient(buckets, bins);
+    if bin < remainder(buckets, bins) {
+        return plus(size, 1);
+    }
+    size
+}
+
+// The due size of a block.
+fn due(book: &[u32; 16453], buckets: u32, bins: u32, block: u32) -> u32 {
+    due_sum(buckets, bins, first_bin(book, block), top(book, block))
+}
+
+fn due_sum(buckets: u32, bins: u32, first: u32, top: u32) -> u32 {
+    let mut sum: u32 = 0;
+    let mut bin = first;
+    while bin < top {
+        sum = plus(sum, due_size(buckets, bins, bin));
+        bin += 1;
+    }
+    sum
+}
+
+// How many of the buckets below `count` are in the bins from `first` up to `top`.
+pub fn held(book: &[u32; 16453], count: u32, first: u32, top: u32) -> u32 {
+    let mut sum: u32 = 0;
+    let mut bucket: u32 = 0;
+    while bucket < count {
+        sum = plus(sum, held_one(bin(book, bucket), first, top));
+        bucket += 1;
+    }
+    sum
+}
+
+fn held_one(bin: u32, first: u32, top: u32) -> u32 {
+    if bin < first {
+        return 0;
+    }
+    if bin < top {
+        return 1;
+    }
+    0
+}
+
+fn held_by(book: &[u32; 16453], count: u32, block: u32) -> u32 {
+    held(book, count, first_bin(book, block), top(book, block))
+}
+
+// A fresh map: one block, its bins in turn.
+pub fn begin(book: &mut [u32; 16453], buckets: u32, bins: u32) {
+    set_top(book, 0, bins);
+    sizes(book, buckets, bins, 1);
+    begin_buckets(book, buckets, bins);
+}
+
+fn begin_buckets(book: &mut [u32; 16453], buckets: u32, bins: u32) {
+    let mut bucket: u32 = 0;
+    while bucket < buckets {
+        set(
+            book,
+            bucket,
+            remainder(bucket, bins),
+            quotient(bucket, bins),
+        );
+        bucket += 1;
+    }
+}
+
+fn sizes(book: &mut [u32; 16453], buckets: u32, bins: u32, blocks: u32) {
+    put(book, BUCKETS, buckets);
+    put(book, BINS, bins);
+    put(book, BLOCKS, blocks);
+}
+
+// A growth: what is now becomes what was before, and then by the case.
+pub fn grow(book: &mut [u32; 16453], new_buckets: u32, new_bins: u32) {
+    let count = buckets(book);
+    put(book, OLD_BUCKETS, count);
+    remember(book, count);
+    if some_fall(book, count, new_buckets, new_bins) {
+        drain(book, count, new_buckets, new_bins);
+    } else {
+        fill(book, count, new_buckets, new_bins);
+    }
+}
+
+fn remember(book: &mut [u32; 16453], count: u32) {
+    let mut bucket: u32 = 0;
+    while bucket < count {
+        remember_one(book, bucket);
+        bucket += 1;
+    }
+}
+
+fn remember_one(book: &mut [u32; 16453], bucket: u32) {
+    let bin = bin(book, bucket);
+    let position = position(book, bucket);
+    if bucket < MOST {
+        put(book, OLD_BIN + bucket as usize, bin);
+        put(book, OLD_POSITION + bucket as usize, position);
+    }
+}
+
+// Whether some block is due less than it has.
+fn some_fall(book: &[u32; 16453], count: u32, new_buckets: u32, new_bins: u32) -> bool {
+    let blocks = block_count(book);
+    let mut block: u32 = 0;
+    while block < blocks {
+        if due(book, new_buckets, new_bins, block) < held_by(book, count, block) {
+            return true;
+        }
+        block += 1;
+    }
+    false
+}
+
+// Every bucket beyond its bin's due size, and then every new one, is dealt to the new bins in turn.
+fn drain(book: &mut [u32; 16453], count: u32, new_buckets: u32, new_bins: u32) {
+    let old_bins = bins(book);
+    let dealt = drain_old(book, count, new_buckets, new_bins, old_bins);
+    drain_new(book, count, new_buckets, new_bins, old_bins, dealt);
+    close(book, new_buckets, new_bins);
+}
+
+fn drain_old(
+    book: &mut [u32; 16453],
+    count: u32,
+    new_buckets: u32,
+    new_bins: u32,
+    old_bins: u32,
+) -> u32 {
+    let mut dealt: u32 = 0;
+    let mut bucket: u32 = 0;
+    while bucket < count {
+        dealt = drain_one(book, bucket, new_buckets, new_bins, old_bins, dealt);
+        bucket += 1;
+    }
+    dealt
+}
+
+fn drain_one(
+    book: &mut [u32; 16453],
+    bucket: u32,
+    new_buckets: u32,
+    new_bins: u32,
+    old_bins: u32,
+    dealt: u32,
+) -> u32 {
+    let bin = bin(book, bucket);
+    if position(book, bucket) < due_size(new_buckets, new_bins, bin) {
+        return dealt;
+    }
+    deal(book, bucket, new_bins, old_bins, dealt)
+}
+
+fn deal(book: &mut [u32; 16453], bucket: u32, new_bins: u32, old_bins: u32, dealt: u32) -> u32 {
+    let width = minus(new_bins, old_bins);
+    set(
+        book,
+        bucket,
+        plus(old_bins, remainder(dealt, width)),
+        quotient(dealt, width),
+    );
+    plus(dealt, 1)
+}
+
+fn drain_new(
+    book: &mut [u32; 16453],
+    count: u32,
+    new_buckets: u32,
+    new_bins: u32,
+    old_bins: u32,
+    first: u32,
+) {
+    let mut dealt = first;
+    let mut bucket = count;
+    while bucket < new_buckets {
+        dealt = deal(book, bucket, new_bins, old_bins, dealt);
+        bucket += 1;
+    }
+}
+
+// The new block, if there are new bins, and the new sizes.
+fn close(book: &mut [u32; 16453], new_buckets: u32, new_bins: u32) {
+    let old_bins = bins(book);
+    let blocks = block_count(book);
+    if old_bins < new_bins {
+        set_top(book, blocks, new_bins);
+        sizes(book, new_buckets, new_bins, plus(blocks, 1));
+        return;
+    }
+    sizes(book, new_buckets, new_bins, blocks);
+}
+
+// The new buckets are handed out block by block: the last bucket's block first, and the new block last.
+fn fill(book: &mut [u32; 16453], count: u32, new_buckets: u32, new_bins: u32) {
+    let last = bin(book, minus(count, 1));
+    close(book, new_buckets, new_bins);
+    let block = block_of(book, last);
+    let next = fill_block(book, new_buckets, new_bins, block, count);
+    fill_blocks(book, new_buckets, new_bins, next);
+}
+
+// A block that has its due already is handed nothing: so is the last bucket's.
+fn fill_blocks(book: &mut [u32; 16453], new_buckets: u32, new_bins: u32, first: u32) {
+    let blocks = block_count(book);
+    let mut next = first;
+    let mut block: u32 = 0;
+    while block < blocks {
+        next = fill_block(book, new_buckets, new_bins, block, next);
+        block += 1;
+    }
+}
+
+// Hands buckets from `next` on to a block until it has its due. The next bucket.
+fn fill_block(
+    book: &mut [u32; 16453],
+    new_buckets: u32,
+    new_bins: u32,
+    block: u32,
+    next: u32,
+) -> u32 {
+    let have = held_by(book, next, block);
+    let due = due(book, new_buckets, new_bins, block);
+    let first = first_bin(book, block);
+    let width = bins_of(book, block);
+    hand(book, first, width, have, due, next)
+}
+
+fn hand(book: &mut [u32; 16453], first: u32, width: u32, have: u32, due: u32, start: u32) -> u32 {
+    let mut next = start;
+    let mut rank = have;
+    while rank < due {
+        set(
+            book,
+            next,
+            plus(first, remainder(rank, width)),
+            quotient(rank, width),
+        );
+        next = plus(next, 1);
+        rank += 1;
+    }
+    next
+}
+
+// Whether a bucket below the old B has another bin.
+pub fn moved_one(book: &[u32; 16453], bucket: u32) -> bool {
+    bin(book, bucket) != old_bin(book, bucket)
+}
+
+// How many have.
+pub fn moved(book: &[u32; 16453]) -> u32 {
+    let count = old_buckets(book);
+    let mut sum: u32 = 0;
+    let mut bucket: u32 = 0;
+    while bucket < count {
+        if moved_one(book, bucket) {
+            sum = plus(sum, 1);
+        }
+        bucket += 1;
+    }
+    sum
+}
+
+// The next of them from `start` on.
+pub fn next_moved(book: &[u32; 16453], start: u32) -> u32 {
+    let count = old_buckets(book);
+    let mut bucket = start;
+    while bucket < count {
+        if moved_one(book, bucket) {
+            return bucket;
+        }
+        bucket += 1;
+    }
+    NONE
+}
