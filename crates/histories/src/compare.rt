@@ -1,7 +1,7 @@
 // What the calls say of a map, against the directory.
-use crate::book;
-use crate::notes;
-use crate::notes::same;
+use crate::counts;
+use crate::counts::same;
+use crate::directory;
 use crate::total::NONE;
 use crate::total::get;
 use crate::total::least;
@@ -18,13 +18,22 @@ pub fn buckets(
     ends: &[u32],
     blocks: &[u32],
     adjustments: &[u32],
-    book: &[u32; 16453],
-    notes: &mut [u32; 20],
+    directory: &[u32; 16453],
+    counts: &mut [u32; 20],
 ) {
-    let count = book::buckets(book);
+    let count = directory::buckets(directory);
     let mut bucket: u32 = 0;
     while bucket < count {
-        bucket_one(h, tops, ends, blocks, adjustments, book, bucket, notes);
+        bucket_one(
+            h,
+            tops,
+            ends,
+            blocks,
+            adjustments,
+            directory,
+            bucket,
+            counts,
+        );
         bucket += 1;
     }
 }
@@ -35,12 +44,12 @@ fn bucket_one(
     ends: &[u32],
     blocks: &[u32],
     adjustments: &[u32],
-    book: &[u32; 16453],
+    directory: &[u32; 16453],
     bucket: u32,
-    notes: &mut [u32; 20],
+    counts: &mut [u32; 20],
 ) {
-    let bin = book::bin(book, bucket);
-    let position = book::position(book, bucket);
+    let bin = directory::bin(directory, bucket);
+    let position = directory::position(directory, bucket);
     place(
         h,
         tops,
@@ -50,7 +59,7 @@ fn bucket_one(
         bucket,
         bin,
         position,
-        notes,
+        counts,
     );
     find(
         h,
@@ -61,9 +70,9 @@ fn bucket_one(
         bucket,
         bin,
         position,
-        notes,
+        counts,
     );
-    notes::add(notes, notes::BUCKETS);
+    counts::add(counts, counts::BUCKETS);
 }
 
 fn place(
@@ -75,12 +84,12 @@ fn place(
     bucket: u32,
     bin: u32,
     position: u32,
-    notes: &mut [u32; 20],
+    counts: &mut [u32; 20],
 ) {
     let reply = irr::place(h, tops, ends, blocks, adjustments, bucket);
-    same(notes, reply.refusal, 0);
-    same(notes, reply.bin, bin);
-    same(notes, reply.position, position);
+    same(counts, reply.refusal, 0);
+    same(counts, reply.bin, bin);
+    same(counts, reply.position, position);
 }
 
 fn find(
@@ -92,11 +101,11 @@ fn find(
     bucket: u32,
     bin: u32,
     position: u32,
-    notes: &mut [u32; 20],
+    counts: &mut [u32; 20],
 ) {
     let reply = irr::find(h, tops, ends, blocks, adjustments, bin, position);
-    same(notes, reply.refusal, 0);
-    same(notes, reply.bucket, bucket);
+    same(counts, reply.refusal, 0);
+    same(counts, reply.bucket, bucket);
 }
 
 // Every bin's size, counted, and nothing found behind it.
@@ -106,13 +115,13 @@ pub fn bins(
     ends: &[u32],
     blocks: &[u32],
     adjustments: &[u32],
-    book: &[u32; 16453],
-    notes: &mut [u32; 20],
+    directory: &[u32; 16453],
+    counts: &mut [u32; 20],
 ) {
-    let count = book::bins(book);
+    let count = directory::bins(directory);
     let mut bin: u32 = 0;
     while bin < count {
-        bin_one(h, tops, ends, blocks, adjustments, book, bin, notes);
+        bin_one(h, tops, ends, blocks, adjustments, directory, bin, counts);
         bin += 1;
     }
 }
@@ -123,14 +132,14 @@ fn bin_one(
     ends: &[u32],
     blocks: &[u32],
     adjustments: &[u32],
-    book: &[u32; 16453],
+    directory: &[u32; 16453],
     bin: u32,
-    notes: &mut [u32; 20],
+    counts: &mut [u32; 20],
 ) {
-    let size = book::held(book, book::buckets(book), bin, plus(bin, 1));
-    bin_size(h, tops, ends, blocks, adjustments, bin, size, notes);
-    not_found(h, tops, ends, blocks, adjustments, bin, size, notes);
-    notes::add(notes, notes::BINS);
+    let size = directory::held(directory, directory::buckets(directory), bin, plus(bin, 1));
+    bin_size(h, tops, ends, blocks, adjustments, bin, size, counts);
+    not_found(h, tops, ends, blocks, adjustments, bin, size, counts);
+    counts::add(counts, counts::BINS);
 }
 
 fn bin_size(
@@ -141,11 +150,11 @@ fn bin_size(
     adjustments: &[u32],
     bin: u32,
     size: u32,
-    notes: &mut [u32; 20],
+    counts: &mut [u32; 20],
 ) {
     let reply = irr::bin_size(h, tops, ends, blocks, adjustments, bin);
-    same(notes, reply.refusal, 0);
-    same(notes, reply.buckets, size);
+    same(counts, reply.refusal, 0);
+    same(counts, reply.buckets, size);
 }
 
 fn not_found(
@@ -156,11 +165,11 @@ fn not_found(
     adjustments: &[u32],
     bin: u32,
     position: u32,
-    notes: &mut [u32; 20],
+    counts: &mut [u32; 20],
 ) {
     let reply = irr::find(h, tops, ends, blocks, adjustments, bin, position);
-    same(notes, reply.refusal, 7);
-    same(notes, reply.bucket, 0);
+    same(counts, reply.refusal, 7);
+    same(counts, reply.bucket, 0);
 }
 
 // The first bucket and the first bin that there are not.
@@ -170,8 +179,8 @@ pub fn outside(
     ends: &[u32],
     blocks: &[u32],
     adjustments: &[u32],
-    book: &[u32; 16453],
-    notes: &mut [u32; 20],
+    directory: &[u32; 16453],
+    counts: &mut [u32; 20],
 ) {
     not_placed(
         h,
@@ -179,8 +188,8 @@ pub fn outside(
         ends,
         blocks,
         adjustments,
-        book::buckets(book),
-        notes,
+        directory::buckets(directory),
+        counts,
     );
     not_found(
         h,
@@ -188,9 +197,9 @@ pub fn outside(
         ends,
         blocks,
         adjustments,
-        book::bins(book),
+        directory::bins(directory),
         0,
-        notes,
+        counts,
     );
 }
 
@@ -201,12 +210,12 @@ fn not_placed(
     blocks: &[u32],
     adjustments: &[u32],
     bucket: u32,
-    notes: &mut [u32; 20],
+    counts: &mut [u32; 20],
 ) {
     let reply = irr::place(h, tops, ends, blocks, adjustments, bucket);
-    same(notes, reply.refusal, 6);
-    same(notes, reply.bin, 0);
-    same(notes, reply.position, 0);
+    same(counts, reply.refusal, 6);
+    same(counts, reply.bin, 0);
+    same(counts, reply.position, 0);
 }
 
 // The move list of the latest growth, asked of the table before it. Pages of 7 rows; the last one is short, or empty.
@@ -216,10 +225,10 @@ pub fn rows(
     ends: &[u32],
     blocks: &[u32],
     adjustments: &[u32],
-    book: &[u32; 16453],
-    notes: &mut [u32; 20],
+    directory: &[u32; 16453],
+    counts: &mut [u32; 20],
 ) {
-    let total = book::moved(book);
+    let total = directory::moved(directory);
     let mut first: u32 = 0;
     let mut bucket: u32 = 0;
     let mut left = plus(quotient(total, 7), 1);
@@ -230,16 +239,16 @@ pub fn rows(
             ends,
             blocks,
             adjustments,
-            book,
+            directory,
             total,
             first,
             bucket,
-            notes,
+            counts,
         );
         first = plus(first, 7);
         left -= 1;
     }
-    same(notes, book::next_moved(book, bucket), NONE);
+    same(counts, directory::next_moved(directory, bucket), NONE);
 }
 
 // One page, whose buckets come from `bucket` on. The bucket from which the next page's come.
@@ -249,11 +258,11 @@ fn page(
     ends: &[u32],
     blocks: &[u32],
     adjustments: &[u32],
-    book: &[u32; 16453],
+    directory: &[u32; 16453],
     total: u32,
     first: u32,
     bucket: u32,
-    notes: &mut [u32; 20],
+    counts: &mut [u32; 20],
 ) -> u32 {
     let mut rows = [NONE; 35];
     let reply = irr::relocations(
@@ -262,48 +271,57 @@ fn page(
         ends,
         blocks,
         adjustments,
-        book::buckets(book),
-        book::bins(book),
+        directory::buckets(directory),
+        directory::bins(directory),
         first,
         &mut rows,
     );
-    same(notes, reply.refusal, 0);
-    same(notes, reply.total, total);
-    same(notes, reply.written, least(7, minus(total, first)));
-    page_rows(&rows, reply.written, book, bucket, notes)
+    same(counts, reply.refusal, 0);
+    same(counts, reply.total, total);
+    same(counts, reply.written, least(7, minus(total, first)));
+    page_rows(&rows, reply.written, directory, bucket, counts)
 }
 
 fn page_rows(
     rows: &[u32],
     written: u32,
-    book: &[u32; 16453],
+    directory: &[u32; 16453],
     start: u32,
-    notes: &mut [u32; 20],
+    counts: &mut [u32; 20],
 ) -> u32 {
     let mut bucket = start;
     let mut i: u32 = 0;
     while i < 7 {
         if i < written {
-            bucket = row(rows, 5 * i as usize, book, bucket, notes);
+            bucket = row(rows, 5 * i as usize, directory, bucket, counts);
         } else {
-            same(notes, get(rows, 5 * i as usize), NONE);
+            same(counts, get(rows, 5 * i as usize), NONE);
         }
         i += 1;
     }
     bucket
 }
 
-fn row(rows: &[u32], at: usize, book: &[u32; 16453], start: u32, notes: &mut [u32; 20]) -> u32
+fn row(rows: &[u32], at: usize, directory: &[u32; 16453], start: u32, counts: &mut [u32; 20]) -> u32
     requires { ⌜ at < 35 ⌝ }
 {
-    let bucket = book::next_moved(book, start);
-    same(notes, get(rows, at), bucket);
-    same(notes, get(rows, at + 1), book::old_bin(book, bucket));
-    same(notes, get(rows, at + 2), book::old_position(book, bucket));
-    same(notes, get(rows, at + 3), book::bin(book, bucket));
-    same(notes, get(rows, at + 4), book::position(book, bucket));
-    notes::add(notes, notes::ROWS);
+    let bucket = directory::next_moved(directory, start);
+    entry(rows, at, bucket, counts);
+    entry(rows, at + 1, directory::old_bin(directory, bucket), counts);
+    entry(
+        rows,
+        at + 2,
+        directory::old_position(directory, bucket),
+        counts,
+    );
+    entry(rows, at + 3, directory::bin(directory, bucket), counts);
+    entry(rows, at + 4, directory::position(directory, bucket), counts);
+    counts::add(counts, counts::ROWS);
     plus(bucket, 1)
+}
+
+fn entry(rows: &[u32], at: usize, right: u32, counts: &mut [u32; 20]) {
+    same(counts, get(rows, at), right);
 }
 
 // A move list that is refused, or from behind its end on: the refusal, and nothing else.
@@ -317,7 +335,7 @@ pub fn no_rows(
     bins: u32,
     first: u32,
     refusal: u32,
-    notes: &mut [u32; 20],
+    counts: &mut [u32; 20],
 ) {
     let mut rows = [NONE; 35];
     let reply = irr::relocations(
@@ -331,8 +349,8 @@ pub fn no_rows(
         first,
         &mut rows,
     );
-    same(notes, reply.refusal, refusal);
-    same(notes, reply.written, 0);
-    same(notes, reply.total, 0);
-    same(notes, get(&rows, 0), NONE);
+    same(counts, reply.refusal, refusal);
+    same(counts, reply.written, 0);
+    same(counts, reply.total, 0);
+    same(counts, get(&rows, 0), NONE);
 }

@@ -1,9 +1,9 @@
 // A history: a fresh map, and growths of it, some of them refused.
-use crate::book;
 use crate::compare;
-use crate::notes;
-use crate::notes::draw;
-use crate::notes::same;
+use crate::counts;
+use crate::counts::draw;
+use crate::counts::same;
+use crate::directory;
 use crate::print::line;
 use crate::total::copy;
 use crate::total::copy_tops;
@@ -20,16 +20,16 @@ struct Ask {
 }
 
 // The refusal by the sizes alone, or 0.
-fn refusal(book: &[u32; 16453], ask: Ask) -> u32 {
+fn refusal(directory: &[u32; 16453], ask: Ask) -> u32 {
     let wrong = wrong_sizes(ask);
     if wrong != 0 {
         return wrong;
     }
     wrong_growth(
         ask,
-        book::buckets(book),
-        book::bins(book),
-        book::block_count(book),
+        directory::buckets(directory),
+        directory::bins(directory),
+        directory::block_count(directory),
     )
 }
 
@@ -79,21 +79,25 @@ fn compared(
     ends: &[u32],
     blocks: &[u32],
     adjustments: &[u32],
-    book: &[u32; 16453],
-    notes: &mut [u32; 20],
+    directory: &[u32; 16453],
+    counts: &mut [u32; 20],
 ) {
-    compare::buckets(h, tops, ends, blocks, adjustments, book, notes);
-    compare::bins(h, tops, ends, blocks, adjustments, book, notes);
-    compare::outside(h, tops, ends, blocks, adjustments, book, notes);
-    notes::most(notes, notes::INTERVALS, h.interval_count);
+    compare::buckets(h, tops, ends, blocks, adjustments, directory, counts);
+    compare::bins(h, tops, ends, blocks, adjustments, directory, counts);
+    compare::outside(h, tops, ends, blocks, adjustments, directory, counts);
+    counts::most(counts, counts::INTERVALS, h.interval_count);
 }
 
 // The reply of a call that wrote a table: what it says besides the number of intervals.
-fn replied(reply: TableReply, book: &[u32; 16453], moved: u32, notes: &mut [u32; 20]) {
-    same(notes, reply.refusal, 0);
-    same(notes, reply.moved, moved);
-    same(notes, reply.header.buckets, book::buckets(book));
-    same(notes, reply.header.block_count, book::block_count(book));
+fn replied(reply: TableReply, directory: &[u32; 16453], moved: u32, counts: &mut [u32; 20]) {
+    same(counts, reply.refusal, 0);
+    same(counts, reply.moved, moved);
+    same(counts, reply.header.buckets, directory::buckets(directory));
+    same(
+        counts,
+        reply.header.block_count,
+        directory::block_count(directory),
+    );
 }
 
 // An accepted growth: the move list, asked of the old table, and its end.
@@ -103,21 +107,21 @@ fn moves(
     ends: &[u32],
     blocks: &[u32],
     adjustments: &[u32],
-    book: &[u32; 16453],
-    notes: &mut [u32; 20],
+    directory: &[u32; 16453],
+    counts: &mut [u32; 20],
 ) {
-    compare::rows(h, tops, ends, blocks, adjustments, book, notes);
+    compare::rows(h, tops, ends, blocks, adjustments, directory, counts);
     compare::no_rows(
         h,
         tops,
         ends,
         blocks,
         adjustments,
-        book::buckets(book),
-        book::bins(book),
-        plus(book::moved(book), 1),
+        directory::buckets(directory),
+        directory::bins(directory),
+        plus(directory::moved(directory), 1),
         9,
-        notes,
+        counts,
     );
 }
 
@@ -132,13 +136,13 @@ fn refused(
     ask: Ask,
     reply: TableReply,
     right: u32,
-    notes: &mut [u32; 20],
+    counts: &mut [u32; 20],
 ) {
-    zeros(reply, notes);
+    zeros(reply, counts);
     if reply.refusal == 8 {
-        too_many(h, ask, notes);
+        too_many(h, ask, counts);
     } else {
-        same(notes, reply.refusal, right);
+        same(counts, reply.refusal, right);
     }
     compare::no_rows(
         h,
@@ -150,19 +154,19 @@ fn refused(
         ask.bins,
         0,
         right,
-        notes,
+        counts,
     );
 }
 
-fn zeros(reply: TableReply, notes: &mut [u32; 20]) {
-    notes::add(notes, reply.refusal as usize);
-    same(notes, reply.moved, 0);
-    same(notes, reply.header.buckets, 0);
-    same(notes, reply.header.block_count, 0);
-    same(notes, reply.header.interval_count, 0);
+fn zeros(reply: TableReply, counts: &mut [u32; 20]) {
+    counts::add(counts, reply.refusal as usize);
+    same(counts, reply.moved, 0);
+    same(counts, reply.header.buckets, 0);
+    same(counts, reply.header.block_count, 0);
+    same(counts, reply.header.interval_count, 0);
 }
 
-fn too_many(h: Header, ask: Ask, notes: &mut [u32; 20]) {
+fn too_many(h: Header, ask: Ask, counts: &mut [u32; 20]) {
     line(
         b"refused by 8: buckets, blocks, intervals, buckets and bins asked for",
         &[
@@ -174,11 +178,11 @@ fn too_many(h: Header, ask: Ask, notes: &mut [u32; 20]) {
         ],
     );
     if h.interval_count <= 1_040 {
-        notes::add(notes, notes::FAILED);
+        counts::add(counts, counts::FAILED);
     }
 }
 
-// One growth: the header afterwards. An accepted table is compared, and then copied over the old one.
+// One growth: the header afterwards.
 fn grow(
     h: Header,
     tops: &mut [u32; 65],
@@ -189,11 +193,10 @@ fn grow(
     new_ends: &mut [u32; 2081],
     new_blocks: &mut [u32; 2081],
     new_adjustments: &mut [u32; 2081],
-    book: &mut [u32; 16453],
+    directory: &mut [u32; 16453],
     ask: Ask,
-    notes: &mut [u32; 20],
+    counts: &mut [u32; 20],
 ) -> Header {
-    let right = refusal(book, ask);
     let reply = irr::expand(
         h,
         tops,
@@ -207,8 +210,52 @@ fn grow(
         new_blocks,
         new_adjustments,
     );
+    settled(
+        h,
+        tops,
+        ends,
+        blocks,
+        adjustments,
+        reply,
+        new_tops,
+        new_ends,
+        new_blocks,
+        new_adjustments,
+        directory,
+        ask,
+        counts,
+    )
+}
+
+// An accepted table is compared, and then copied over the old one.
+fn settled(
+    h: Header,
+    tops: &mut [u32; 65],
+    ends: &mut [u32; 2081],
+    blocks: &mut [u32; 2081],
+    adjustments: &mut [u32; 2081],
+    reply: TableReply,
+    new_tops: &[u32; 65],
+    new_ends: &[u32; 2081],
+    new_blocks: &[u32; 2081],
+    new_adjustments: &[u32; 2081],
+    directory: &mut [u32; 16453],
+    ask: Ask,
+    counts: &mut [u32; 20],
+) -> Header {
+    let right = refusal(directory, ask);
     if reply.refusal != 0 {
-        refused(h, tops, ends, blocks, adjustments, ask, reply, right, notes);
+        refused(
+            h,
+            tops,
+            ends,
+            blocks,
+            adjustments,
+            ask,
+            reply,
+            right,
+            counts,
+        );
         return h;
     }
     accepted(
@@ -222,16 +269,38 @@ fn grow(
         new_ends,
         new_blocks,
         new_adjustments,
-        book,
+        directory,
         ask,
         right,
-        notes,
+        counts,
     );
+    keep(
+        new_tops,
+        new_ends,
+        new_blocks,
+        new_adjustments,
+        tops,
+        ends,
+        blocks,
+        adjustments,
+    );
+    reply.header
+}
+
+fn keep(
+    new_tops: &[u32; 65],
+    new_ends: &[u32; 2081],
+    new_blocks: &[u32; 2081],
+    new_adjustments: &[u32; 2081],
+    tops: &mut [u32; 65],
+    ends: &mut [u32; 2081],
+    blocks: &mut [u32; 2081],
+    adjustments: &mut [u32; 2081],
+) {
     copy_tops(new_tops, tops);
     copy(new_ends, ends);
     copy(new_blocks, blocks);
     copy(new_adjustments, adjustments);
-    reply.header
 }
 
 fn accepted(
@@ -241,29 +310,39 @@ fn accepted(
     blocks: &[u32],
     adjustments: &[u32],
     reply: TableReply,
-    new_tops: &[u32; 65],
-    new_ends: &[u32; 2081],
-    new_blocks: &[u32; 2081],
-    new_adjustments: &[u32; 2081],
-    book: &mut [u32; 16453],
+    new_tops: &[u32],
+    new_ends: &[u32],
+    new_blocks: &[u32],
+    new_adjustments: &[u32],
+    directory: &mut [u32; 16453],
     ask: Ask,
     right: u32,
-    notes: &mut [u32; 20],
+    counts: &mut [u32; 20],
 ) {
-    notes::add(notes, notes::ACCEPTED);
-    same(notes, 0, right);
-    book::grow(book, ask.buckets, ask.bins);
-    replied(reply, book, book::moved(book), notes);
-    moves(h, tops, ends, blocks, adjustments, book, notes);
+    grown(reply, directory, ask, right, counts);
+    moves(h, tops, ends, blocks, adjustments, directory, counts);
     compared(
         reply.header,
         new_tops,
         new_ends,
         new_blocks,
         new_adjustments,
-        book,
-        notes,
+        directory,
+        counts,
     );
+}
+
+fn grown(
+    reply: TableReply,
+    directory: &mut [u32; 16453],
+    ask: Ask,
+    right: u32,
+    counts: &mut [u32; 20],
+) {
+    counts::add(counts, counts::ACCEPTED);
+    same(counts, 0, right);
+    directory::grow(directory, ask.buckets, ask.bins);
+    replied(reply, directory, directory::moved(directory), counts);
 }
 
 // How a history goes on: random growths by at most so many buckets and bins, or by plan if there are no bins.
@@ -273,17 +352,18 @@ pub struct Style {
 }
 
 // Growth number i.
-fn asked(book: &[u32; 16453], style: Style, i: u32, notes: &mut [u32; 20]) -> Ask {
-    let buckets = book::buckets(book);
-    let bins = book::bins(book);
+fn asked(directory: &[u32; 16453], style: Style, i: u32, counts: &mut [u32; 20]) -> Ask {
+    let buckets = directory::buckets(directory);
+    let bins = directory::bins(directory);
     if style.bins == 0 {
         return planned(buckets, bins, i);
     }
-    random(buckets, bins, style, notes)
+    random(buckets, bins, style, counts)
 }
 
-// One bin at a time until there are 65 blocks, one more, which is refused by 5, and then a bucket more for every bin, until
-// there are 2,081 intervals: refused by 8. Now and then one bucket alone.
+// One bin at a time until there are 65 blocks, and one more, which is refused by 5. Then a bucket more for every bin, which
+// makes an interval for every block but one, until that is refused by 8; then five buckets, and then one, until there are
+// 2,081 intervals, and one bucket more is refused by 8.
 fn planned(buckets: u32, bins: u32, i: u32) -> Ask {
     if i < 65 {
         return Ask {
@@ -291,27 +371,31 @@ fn planned(buckets: u32, bins: u32, i: u32) -> Ask {
             bins: plus(bins, 1),
         };
     }
-    if i % 8 == 7 {
-        return Ask {
-            buckets: plus(buckets, 1),
-            bins,
-        };
-    }
     Ask {
-        buckets: plus(buckets, bins),
+        buckets: plus(buckets, more(bins, i)),
         bins,
     }
 }
 
-fn random(buckets: u32, bins: u32, style: Style, notes: &mut [u32; 20]) -> Ask {
-    let choice = draw(notes, 8);
-    let more_buckets = plus(plus(buckets, 1), draw(notes, style.buckets));
-    let more_bins = plus(plus(bins, 1), draw(notes, style.bins));
-    let wrong = draw(notes, 10);
+fn more(bins: u32, i: u32) -> u32 {
+    if i < 97 {
+        return bins;
+    }
+    if i < 107 {
+        return 5;
+    }
+    1
+}
+
+fn random(buckets: u32, bins: u32, style: Style, counts: &mut [u32; 20]) -> Ask {
+    let choice = draw(counts, 8);
+    let more_buckets = plus(plus(buckets, 1), draw(counts, style.buckets));
+    let more_bins = plus(plus(bins, 1), draw(counts, style.bins));
+    let wrong = draw(counts, 10);
     chosen(
         buckets,
         bins,
-        least(more_buckets, book::MOST),
+        least(more_buckets, directory::MOST),
         more_bins,
         choice,
         wrong,
@@ -347,7 +431,7 @@ fn chosen(
     }
     if choice < 7 {
         return Ask {
-            buckets: least(plus(buckets, 1), book::MOST),
+            buckets: least(plus(buckets, 1), directory::MOST),
             bins: plus(bins, 1),
         };
     }
@@ -399,15 +483,15 @@ fn growths(
     new_ends: &mut [u32; 2081],
     new_blocks: &mut [u32; 2081],
     new_adjustments: &mut [u32; 2081],
-    book: &mut [u32; 16453],
+    directory: &mut [u32; 16453],
     style: Style,
     count: u32,
-    notes: &mut [u32; 20],
+    counts: &mut [u32; 20],
 ) {
     let mut h = header;
     let mut i: u32 = 0;
     while i < count {
-        let ask = asked(book, style, i, notes);
+        let ask = asked(directory, style, i, counts);
         h = grow(
             h,
             tops,
@@ -418,9 +502,9 @@ fn growths(
             new_ends,
             new_blocks,
             new_adjustments,
-            book,
+            directory,
             ask,
-            notes,
+            counts,
         );
         i += 1;
     }
@@ -432,17 +516,49 @@ fn begun(
     ends: &mut [u32; 2081],
     blocks: &mut [u32; 2081],
     adjustments: &mut [u32; 2081],
-    book: &mut [u32; 16453],
+    directory: &mut [u32; 16453],
     buckets: u32,
     bins: u32,
-    notes: &mut [u32; 20],
+    counts: &mut [u32; 20],
 ) -> Header {
     let reply = irr::initial(buckets, bins, tops, ends, blocks, adjustments);
-    book::begin(book, buckets, bins);
-    replied(reply, book, 0, notes);
-    compared(reply.header, tops, ends, blocks, adjustments, book, notes);
-    notes::add(notes, notes::HISTORIES);
+    first(
+        reply,
+        tops,
+        ends,
+        blocks,
+        adjustments,
+        directory,
+        buckets,
+        bins,
+        counts,
+    );
     reply.header
+}
+
+fn first(
+    reply: TableReply,
+    tops: &[u32],
+    ends: &[u32],
+    blocks: &[u32],
+    adjustments: &[u32],
+    directory: &mut [u32; 16453],
+    buckets: u32,
+    bins: u32,
+    counts: &mut [u32; 20],
+) {
+    directory::begin(directory, buckets, bins);
+    replied(reply, directory, 0, counts);
+    compared(
+        reply.header,
+        tops,
+        ends,
+        blocks,
+        adjustments,
+        directory,
+        counts,
+    );
+    counts::add(counts, counts::HISTORIES);
 }
 
 // A history.
@@ -455,14 +571,23 @@ fn history(
     new_ends: &mut [u32; 2081],
     new_blocks: &mut [u32; 2081],
     new_adjustments: &mut [u32; 2081],
-    book: &mut [u32; 16453],
+    directory: &mut [u32; 16453],
     buckets: u32,
     bins: u32,
     style: Style,
     count: u32,
-    notes: &mut [u32; 20],
+    counts: &mut [u32; 20],
 ) {
-    let h = begun(tops, ends, blocks, adjustments, book, buckets, bins, notes);
+    let h = begun(
+        tops,
+        ends,
+        blocks,
+        adjustments,
+        directory,
+        buckets,
+        bins,
+        counts,
+    );
     growths(
         h,
         tops,
@@ -473,15 +598,15 @@ fn history(
         new_ends,
         new_blocks,
         new_adjustments,
-        book,
+        directory,
         style,
         count,
-        notes,
+        counts,
     );
 }
 
 // A history, with room for two tables and the directory.
-pub fn play(buckets: u32, bins: u32, style: Style, count: u32, notes: &mut [u32; 20]) {
+pub fn play(buckets: u32, bins: u32, style: Style, count: u32, counts: &mut [u32; 20]) {
     let mut tops = [0u32; 65];
     let mut ends = [0u32; 2081];
     let mut blocks = [0u32; 2081];
@@ -490,7 +615,7 @@ pub fn play(buckets: u32, bins: u32, style: Style, count: u32, notes: &mut [u32;
     let mut new_ends = [0u32; 2081];
     let mut new_blocks = [0u32; 2081];
     let mut new_adjustments = [0u32; 2081];
-    let mut book = [0u32; book::LENGTH];
+    let mut directory = [0u32; directory::LENGTH];
     history(
         &mut tops,
         &mut ends,
@@ -500,11 +625,11 @@ pub fn play(buckets: u32, bins: u32, style: Style, count: u32, notes: &mut [u32;
         &mut new_ends,
         &mut new_blocks,
         &mut new_adjustments,
-        &mut book,
+        &mut directory,
         buckets,
         bins,
         style,
         count,
-        notes,
+        counts,
     );
 }

@@ -5,10 +5,10 @@ use Rattle.histories.proofs.random.Statement.{statement}
 use Rattle.histories.proofs.random.Tie as tie
 
 abbrev Inv-loop : tie.InvT-loop
-Inv-loop histories first style growths notes₀ i₀ notes i = i ≤ histories
+Inv-loop histories first style growths counts₀ i₀ counts i = i ≤ histories
 
 abbrev μ-loop : tie.MeasureT-loop
-μ-loop histories first style growths notes₀ i₀ notes i = histories - i
+μ-loop histories first style growths counts₀ i₀ counts i = histories - i
 
 loop-holds : tie.Need-loop-holds Inv-loop μ-loop
 loop-holds c = search needs

@@ -5,10 +5,10 @@ use Rattle.histories.proofs.compare.bins.Statement.{statement}
 use Rattle.histories.proofs.compare.bins.Tie as tie
 
 abbrev Inv-loop : tie.InvT-loop
-Inv-loop h tops ends blocks adjustments book notes₀ count bin₀ notes bin = bin ≤ count
+Inv-loop h tops ends blocks adjustments directory counts₀ count bin₀ counts bin = bin ≤ count
 
 abbrev μ-loop : tie.MeasureT-loop
-μ-loop h tops ends blocks adjustments book notes₀ count bin₀ notes bin = count - bin
+μ-loop h tops ends blocks adjustments directory counts₀ count bin₀ counts bin = count - bin
 
 bins-requires : tie.Need-bins-requires Inv-loop μ-loop
 bins-requires c κs = search needs

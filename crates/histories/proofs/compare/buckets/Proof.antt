@@ -5,10 +5,10 @@ use Rattle.histories.proofs.compare.buckets.Statement.{statement}
 use Rattle.histories.proofs.compare.buckets.Tie as tie
 
 abbrev Inv-loop : tie.InvT-loop
-Inv-loop h tops ends blocks adjustments book notes₀ count bucket₀ notes bucket = bucket ≤ count
+Inv-loop h tops ends blocks adjustments directory counts₀ count bucket₀ counts bucket = bucket ≤ count
 
 abbrev μ-loop : tie.MeasureT-loop
-μ-loop h tops ends blocks adjustments book notes₀ count bucket₀ notes bucket = count - bucket
+μ-loop h tops ends blocks adjustments directory counts₀ count bucket₀ counts bucket = count - bucket
 
 buckets-requires : tie.Need-buckets-requires Inv-loop μ-loop
 buckets-requires c κs = search needs

@@ -5,10 +5,10 @@ use Rattle.histories.proofs.compare.page_rows.Statement.{statement}
 use Rattle.histories.proofs.compare.page_rows.Tie as tie
 
 abbrev Inv-loop : tie.InvT-loop
-Inv-loop rows written book start notes₀ bucket₀ i₀ notes bucket i = i ≤ 7
+Inv-loop rows written directory start counts₀ bucket₀ i₀ counts bucket i = i ≤ 7
 
 abbrev μ-loop : tie.MeasureT-loop
-μ-loop rows written book start notes₀ bucket₀ i₀ notes bucket i = 7 - i
+μ-loop rows written directory start counts₀ bucket₀ i₀ counts bucket i = 7 - i
 
 loop-holds : tie.Need-loop-holds Inv-loop μ-loop
 loop-holds c = search needs

@@ -5,11 +5,11 @@ use Rattle.histories.proofs.compare.rows.Statement.{statement}
 use Rattle.histories.proofs.compare.rows.Tie as tie
 
 abbrev Inv-loop : tie.InvT-loop
-Inv-loop h tops ends blocks adjustments book notes₀ total first₀ bucket₀ left₀ notes first bucket left =
+Inv-loop h tops ends blocks adjustments directory counts₀ total first₀ bucket₀ left₀ counts first bucket left =
     0 ≤ left
 
 abbrev μ-loop : tie.MeasureT-loop
-μ-loop h tops ends blocks adjustments book notes₀ total first₀ bucket₀ left₀ notes first bucket left =
+μ-loop h tops ends blocks adjustments directory counts₀ total first₀ bucket₀ left₀ counts first bucket left =
     left
 
 moved-requires : tie.Need-moved-requires Inv-loop μ-loop

@@ -5,11 +5,11 @@ use Rattle.histories.proofs.history.growths.Statement.{statement}
 use Rattle.histories.proofs.history.growths.Tie as tie
 
 abbrev Inv-loop : tie.InvT-loop
-Inv-loop tops₀ ends₀ blocks₀ adjustments₀ new-tops₀ new-ends₀ new-blocks₀ new-adjustments₀ book₀ style count notes₀ h₀ i₀ tops ends blocks adjustments new-tops new-ends new-blocks new-adjustments book notes h i =
+Inv-loop tops₀ ends₀ blocks₀ adjustments₀ new-tops₀ new-ends₀ new-blocks₀ new-adjustments₀ directory₀ style count counts₀ h₀ i₀ tops ends blocks adjustments new-tops new-ends new-blocks new-adjustments directory counts h i =
     i ≤ count
 
 abbrev μ-loop : tie.MeasureT-loop
-μ-loop tops₀ ends₀ blocks₀ adjustments₀ new-tops₀ new-ends₀ new-blocks₀ new-adjustments₀ book₀ style count notes₀ h₀ i₀ tops ends blocks adjustments new-tops new-ends new-blocks new-adjustments book notes h i =
+μ-loop tops₀ ends₀ blocks₀ adjustments₀ new-tops₀ new-ends₀ new-blocks₀ new-adjustments₀ directory₀ style count counts₀ h₀ i₀ tops ends blocks adjustments new-tops new-ends new-blocks new-adjustments directory counts h i =
     count - i
 
 loop-holds : tie.Need-loop-holds Inv-loop μ-loop
