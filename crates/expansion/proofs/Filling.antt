@@ -12,10 +12,10 @@ use Rattle.model.specs.declared.table.Header.{Header}
 use Rattle.model.proofs.Tables.{lentInterval, length-from}
 use Rattle.model.proofs.Filled.{lastOf, lengthTo}
 use Rattle.model.proofs.Steps.{last-lent, lengthened-lent, end-last, filled-within}
-use Rattle.expansion.specs.Given.{Fills}
-use Rattle.expansion.specs.Stored.{Stored}
-use Rattle.expansion.proofs.Pieces.{fills-well, fills-asked, fills-up, gain-from}
-use Rattle.expansion.proofs.Stores.{stored-more}
+use Rattle.count.specs.Given.{Fills}
+use Rattle.drain.specs.Stored.{Stored}
+use Rattle.count.proofs.Pieces.{fills-well, fills-asked, fills-up, gain-from}
+use Rattle.drain.proofs.Stores.{stored-more}
 
 module _ (h : Header) (a : Arrays) (s : Shape) (olds dues : List ℕ) (f : Fills h a s olds dues) where
   abbrev last : ℕ

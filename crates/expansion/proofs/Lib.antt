@@ -1,4 +1,1 @@
-pub mod Stores
-pub mod Parts
-pub mod Pieces
 pub mod Filling

@@ -1,3 +1,359 @@
-// A growth's table: measured, so that refusal 8 is known before anything is written, and written.
-pub mod count;
-pub mod write;
+// The writing pass of a growth: its tops, and its intervals by the case.
+use count::piece;
+use drain::write_drained;
+use drain::write_interval;
+use model::table::Header;
+use plan::blocks_after;
+use plan::dues_after;
+use plan::dues_before;
+use plan::some_fall;
+use table::bin_count;
+ghost use mathlib.Core.Bool.{false};
+ghost use mathlib.Core.List.{[]};
+ghost use mathlib.Core.Path.{_≡_};
+ghost use Prim.Native.Nat.{_+_, _≤_, _<_};
+ghost use lib.ListN.{length, take};
+ghost use lib.Seq.{sets};
+ghost use Rattle.model.specs.Basics.{from};
+ghost use Rattle.model.specs.Limits.{maxBlocks, maxIntervals};
+ghost use Rattle.model.specs.Table.{arrays, over, written};
+ghost use Rattle.model.specs.Refusal.{first, roomShort};
+ghost use Rattle.model.specs.Expansion.{newTops, pieces as piecesOf, filled, expanded};
+ghost use Rattle.model.specs.Calls.{growthTests};
+ghost use Rattle.model.specs.Console.{sizes as sizesOf};
+ghost use Rattle.model.proofs.Tables.{lentInterval};
+ghost use Rattle.model.proofs.Filled.{lengthTo};
+ghost use Rattle.model.specs.Lent.{lent, LentSound};
+ghost use Rattle.count.specs.Given.{Fills};
+ghost use Rattle.drain.specs.Stored.{Room, Stored};
+
+// Copies the first `count` entries of an array over those of another.
+fn copy(from: &[u32], count: usize, to: &mut [u32])
+    requires { ⌜ (count ≤ length (now from)) × (count ≤ length (now to)) ⌝ }
+    ensures { λ _. ⌜ now (to .exit) ≡ sets (now (to .entry)) 0 (take count (now (from .entry))) ⌝ }
+{
+    let mut i: usize = 0;
+    while i < count {
+        to[i] = from[i];
+        i += 1;
+    }
+}
+
+// No old block is due less: one pass over the blocks, whose pieces begin at bucket `start` and go behind the old intervals.
+fn write_pieces(
+    h: Header,
+    tops: &[u32],
+    ends: &[u32],
+    blocks: &[u32],
+    adjustments: &[u32],
+    buckets: u32,
+    bins: u32,
+    olds: &[u32; 65],
+    dues: &[u32; 65],
+    start: u32,
+    new_ends: &mut [u32],
+    new_blocks: &mut [u32],
+    new_adjustments: &mut [u32],
+)
+    requires { ⌜ Fills h (arrays (now tops) (now ends) (now blocks) (now adjustments)) (sizesOf buckets bins) (now olds) (now dues) ⌝ }
+    requires { ⌜ start ≡ lengthTo (lent h (now tops) (now ends) (now blocks) (now adjustments)) (sizesOf buckets bins) ⌝ }
+    requires { ⌜
+        Room (h .«interval_count» + length (piecesOf (lent h (now tops) (now ends) (now blocks) (now adjustments)) (sizesOf buckets bins) start 0 (length (newTops (lent h (now tops) (now ends) (now blocks) (now adjustments)) (sizesOf buckets bins)))))
+        (now «new_ends») (now «new_blocks») (now «new_adjustments»)
+        ⌝ }
+    ensures { λ _.
+        ⌜
+        Stored (h .«interval_count»)
+        (piecesOf
+        (lent h (now (tops .entry)) (now (ends .entry)) (now (blocks .entry)) (now (adjustments .entry)))
+        (sizesOf buckets bins)
+        start
+        0
+        (length
+        (newTops
+        (lent h (now (tops .entry)) (now (ends .entry)) (now (blocks .entry)) (now (adjustments .entry)))
+        (sizesOf buckets bins))))
+        (now («new_ends» .entry)) (now («new_blocks» .entry)) (now («new_adjustments» .entry))
+        (now («new_ends» .exit)) (now («new_blocks» .exit)) (now («new_adjustments» .exit))
+        ⌝ }
+{
+    let count = blocks_after(h, tops, ends, blocks, adjustments, buckets, bins) as usize;
+    let mut at = start;
+    let mut o = h.interval_count as usize;
+    let mut j: usize = 0;
+    while j < count {
+        let gained = piece(
+            h,
+            tops,
+            ends,
+            blocks,
+            adjustments,
+            buckets,
+            bins,
+            olds,
+            dues,
+            j,
+        );
+        let block = j;
+        j += 1;
+        if gained != 0 {
+            let end = at + gained;
+            write_interval(
+                end,
+                block as u32,
+                at - olds[block],
+                o,
+                new_ends,
+                new_blocks,
+                new_adjustments,
+            );
+            at = end;
+            o += 1;
+        }
+    }
+}
+
+// Copies the first `count` intervals.
+fn copy_intervals(
+    ends: &[u32],
+    blocks: &[u32],
+    adjustments: &[u32],
+    count: usize,
+    new_ends: &mut [u32],
+    new_blocks: &mut [u32],
+    new_adjustments: &mut [u32],
+)
+    requires { ⌜ Room count (now ends) (now blocks) (now adjustments) ⌝ }
+    requires { ⌜ Room count (now «new_ends») (now «new_blocks») (now «new_adjustments») ⌝ }
+    ensures { λ _.
+        ⌜
+        Stored 0 (from (lentInterval (arrays [] (now (ends .entry)) (now (blocks .entry)) (now (adjustments .entry)))) 0 count)
+        (now («new_ends» .entry)) (now («new_blocks» .entry)) (now («new_adjustments» .entry))
+        (now («new_ends» .exit)) (now («new_blocks» .exit)) (now («new_adjustments» .exit))
+        ⌝ }
+{
+    copy(ends, count, new_ends);
+    copy(blocks, count, new_blocks);
+    copy(adjustments, count, new_adjustments);
+}
+
+// No old block is due less: the old intervals, the last one lengthened by what its block gains, and the other blocks' pieces.
+fn write_filled(
+    h: Header,
+    tops: &[u32],
+    ends: &[u32],
+    blocks: &[u32],
+    adjustments: &[u32],
+    buckets: u32,
+    bins: u32,
+    olds: &[u32; 65],
+    dues: &[u32; 65],
+    new_ends: &mut [u32],
+    new_blocks: &mut [u32],
+    new_adjustments: &mut [u32],
+)
+    requires { ⌜ Fills h (arrays (now tops) (now ends) (now blocks) (now adjustments)) (sizesOf buckets bins) (now olds) (now dues) ⌝ }
+    requires { ⌜
+        Room (length (filled (lent h (now tops) (now ends) (now blocks) (now adjustments)) (sizesOf buckets bins)))
+        (now «new_ends») (now «new_blocks») (now «new_adjustments»)
+        ⌝ }
+    ensures { λ _.
+        ⌜
+        Stored 0
+        (filled
+        (lent h (now (tops .entry)) (now (ends .entry)) (now (blocks .entry)) (now (adjustments .entry)))
+        (sizesOf buckets bins))
+        (now («new_ends» .entry)) (now («new_blocks» .entry)) (now («new_adjustments» .entry))
+        (now («new_ends» .exit)) (now («new_blocks» .exit)) (now («new_adjustments» .exit))
+        ⌝ }
+{
+    let last = h.interval_count as usize - 1;
+    let block = blocks[last];
+    let end = h.buckets + (dues[block as usize] - olds[block as usize]);
+    copy_intervals(
+        ends,
+        blocks,
+        adjustments,
+        last,
+        new_ends,
+        new_blocks,
+        new_adjustments,
+    );
+    write_interval(
+        end,
+        block,
+        adjustments[last],
+        last,
+        new_ends,
+        new_blocks,
+        new_adjustments,
+    );
+    write_pieces(
+        h,
+        tops,
+        ends,
+        blocks,
+        adjustments,
+        buckets,
+        bins,
+        olds,
+        dues,
+        end,
+        new_ends,
+        new_blocks,
+        new_adjustments,
+    );
+}
+
+// The new tops: the old ones, and the new block's if there are more bins.
+fn write_tops(
+    h: Header,
+    tops: &[u32],
+    ends: &[u32],
+    blocks: &[u32],
+    adjustments: &[u32],
+    buckets: u32,
+    bins: u32,
+    new_tops: &mut [u32],
+)
+    requires { ⌜ LentSound h (now tops) (now ends) (now blocks) (now adjustments) ⌝ }
+    requires { ⌜ first (growthTests (lent h (now tops) (now ends) (now blocks) (now adjustments)) (sizesOf buckets bins)) ≡ 0 ⌝ }
+    requires { ⌜ maxBlocks ≤ length (now «new_tops») ⌝ }
+    ensures { λ _.
+        ⌜
+        now («new_tops» .exit)
+        ≡ over
+        (newTops
+        (lent h (now (tops .entry)) (now (ends .entry)) (now (blocks .entry)) (now (adjustments .entry)))
+        (sizesOf buckets bins))
+        (now («new_tops» .entry))
+        ⌝ }
+{
+    let count = h.block_count as usize;
+    let old = bin_count(h, tops, ends, blocks, adjustments);
+    copy(tops, count, new_tops);
+    if old < bins {
+        new_tops[count] = bins;
+    }
+}
+
+// The new intervals, by the case.
+fn write_intervals(
+    h: Header,
+    tops: &[u32],
+    ends: &[u32],
+    blocks: &[u32],
+    adjustments: &[u32],
+    buckets: u32,
+    bins: u32,
+    new_ends: &mut [u32],
+    new_blocks: &mut [u32],
+    new_adjustments: &mut [u32],
+)
+    requires { ⌜ LentSound h (now tops) (now ends) (now blocks) (now adjustments) ⌝ }
+    requires { ⌜ first (growthTests (lent h (now tops) (now ends) (now blocks) (now adjustments)) (sizesOf buckets bins)) ≡ 0 ⌝ }
+    requires { ⌜
+        Room (length (expanded (lent h (now tops) (now ends) (now blocks) (now adjustments)) (sizesOf buckets bins) .intervals))
+        (now «new_ends») (now «new_blocks») (now «new_adjustments»)
+        ⌝ }
+    ensures { λ _.
+        ⌜
+        Stored 0
+        (expanded
+        (lent h (now (tops .entry)) (now (ends .entry)) (now (blocks .entry)) (now (adjustments .entry)))
+        (sizesOf buckets bins)
+        .intervals)
+        (now («new_ends» .entry)) (now («new_blocks» .entry)) (now («new_adjustments» .entry))
+        (now («new_ends» .exit)) (now («new_blocks» .exit)) (now («new_adjustments» .exit))
+        ⌝ }
+{
+    let olds = dues_before(h, tops, ends, blocks, adjustments);
+    let dues = dues_after(h, tops, ends, blocks, adjustments, buckets, bins);
+    if some_fall(
+        h,
+        tops,
+        ends,
+        blocks,
+        adjustments,
+        buckets,
+        bins,
+        &olds,
+        &dues,
+    ) {
+        write_drained(
+            h,
+            tops,
+            ends,
+            blocks,
+            adjustments,
+            buckets,
+            bins,
+            &dues,
+            new_ends,
+            new_blocks,
+            new_adjustments,
+        );
+        return;
+    }
+    write_filled(
+        h,
+        tops,
+        ends,
+        blocks,
+        adjustments,
+        buckets,
+        bins,
+        &olds,
+        &dues,
+        new_ends,
+        new_blocks,
+        new_adjustments,
+    );
+}
+
+// The growth's table, into arrays with room for it.
+pub fn write_expanded(
+    h: Header,
+    tops: &[u32],
+    ends: &[u32],
+    blocks: &[u32],
+    adjustments: &[u32],
+    buckets: u32,
+    bins: u32,
+    new_tops: &mut [u32],
+    new_ends: &mut [u32],
+    new_blocks: &mut [u32],
+    new_adjustments: &mut [u32],
+)
+    requires { ⌜ LentSound h (now tops) (now ends) (now blocks) (now adjustments) ⌝ }
+    requires { ⌜ first (growthTests (lent h (now tops) (now ends) (now blocks) (now adjustments)) (sizesOf buckets bins)) ≡ 0 ⌝ }
+    requires { ⌜ roomShort (arrays (now «new_tops») (now «new_ends») (now «new_blocks») (now «new_adjustments»)) ≡ false ⌝ }
+    requires { ⌜ length (expanded (lent h (now tops) (now ends) (now blocks) (now adjustments)) (sizesOf buckets bins) .intervals) ≤ maxIntervals ⌝ }
+    ensures { λ _.
+        ⌜
+        arrays (now («new_tops» .exit)) (now («new_ends» .exit)) (now («new_blocks» .exit)) (now («new_adjustments» .exit))
+        ≡ written
+        (expanded
+        (lent h (now (tops .entry)) (now (ends .entry)) (now (blocks .entry)) (now (adjustments .entry)))
+        (sizesOf buckets bins))
+        (arrays
+        (now («new_tops» .entry))
+        (now («new_ends» .entry))
+        (now («new_blocks» .entry))
+        (now («new_adjustments» .entry)))
+        ⌝ }
+{
+    write_tops(h, tops, ends, blocks, adjustments, buckets, bins, new_tops);
+    write_intervals(
+        h,
+        tops,
+        ends,
+        blocks,
+        adjustments,
+        buckets,
+        bins,
+        new_ends,
+        new_blocks,
+        new_adjustments,
+    );
+}

@@ -1,6 +1,10 @@
 // Fresh maps and room.
-use crate::print::line;
-ghost use Prim.Native.Nat.{_<_};
+use crate::print::end;
+use crate::print::first;
+use crate::print::number;
+use crate::print::text;
+use model::reply::TableReply;
+ghost use Prim.Native.Nat.{_<_, _≤_};
 
 // Sizes asked for: document 01's figures, then refusals 1 and 2 at their edges.
 const SIZES: [u32; 20] = [
@@ -40,7 +44,7 @@ pub fn sizes() {
     }
 }
 
-// sizes; refusal, moved, header; the first two entries of each array: written, and kept
+// sizes; the reply; the first two entries of each array: written, and kept
 fn fresh(buckets: u32, bins: u32) {
     let mut tops = [7u32; 65];
     let mut ends = [7u32; 2081];
@@ -54,106 +58,71 @@ fn fresh(buckets: u32, bins: u32) {
         &mut blocks,
         &mut adjustments,
     );
-    line(b"fresh", &[buckets, bins]);
-    line(
-        b"  reply",
-        &[
-            reply.refusal,
-            reply.moved,
-            reply.header.buckets,
-            reply.header.block_count,
-            reply.header.interval_count,
-        ],
-    );
-    line(
-        b"  entries",
-        &[
-            tops[0],
-            tops[1],
-            ends[0],
-            ends[1],
-            blocks[0],
-            blocks[1],
-            adjustments[0],
-            adjustments[1],
-        ],
-    );
+    text(b"fresh");
+    number(buckets);
+    number(bins);
+    end();
+    replied(reply);
+    text(b"  entries");
+    first(&tops, 2);
+    first(&ends, 2);
+    first(&blocks, 2);
+    first(&adjustments, 2);
+    end();
+}
+
+// refusal, moved, header
+fn replied(reply: TableReply) {
+    text(b"  reply");
+    number(reply.refusal);
+    number(reply.moved);
+    number(reply.header.buckets);
+    number(reply.header.block_count);
+    number(reply.header.interval_count);
+    end();
 }
 
 // 21: one entry short in each array. The sizes would be refused too.
 pub fn rooms() {
-    full();
-    few_tops();
-    few_ends();
-    few_blocks();
-    few_adjustments();
+    asked(b"room for all", 65, 2_081, 2_081, 2_081);
+    asked(b"64 tops", 64, 2_081, 2_081, 2_081);
+    asked(b"2080 ends", 65, 2_080, 2_081, 2_081);
+    asked(b"2080 blocks", 65, 2_081, 2_080, 2_081);
+    asked(b"2080 adjustments", 65, 2_081, 2_081, 2_080);
 }
 
-fn asked(
-    text: &[u8],
-    tops: &mut [u32],
-    ends: &mut [u32],
-    blocks: &mut [u32],
-    adjustments: &mut [u32],
-) {
-    let reply = irr::initial(0, 0, tops, ends, blocks, adjustments);
-    line(text, &[reply.refusal]);
-}
-
-fn full() {
-    asked(
-        b"room for all",
-        &mut [7; 65],
-        &mut [7; 2081],
-        &mut [7; 2081],
-        &mut [7; 2081],
+// So many entries of each array are lent.
+fn asked(words: &[u8], tops: usize, ends: usize, blocks: usize, adjustments: usize)
+    requires { ⌜ tops ≤ 65 ⌝ }
+    requires { ⌜ ends ≤ 2081 ⌝ }
+    requires { ⌜ blocks ≤ 2081 ⌝ }
+    requires { ⌜ adjustments ≤ 2081 ⌝ }
+{
+    let mut all_tops = [7u32; 65];
+    let mut all_ends = [7u32; 2081];
+    let mut all_blocks = [7u32; 2081];
+    let mut all_adjustments = [7u32; 2081];
+    let reply = irr::initial(
+        0,
+        0,
+        &mut all_tops[..tops],
+        &mut all_ends[..ends],
+        &mut all_blocks[..blocks],
+        &mut all_adjustments[..adjustments],
     );
-}
-
-fn few_tops() {
-    asked(
-        b"64 tops",
-        &mut [7; 64],
-        &mut [7; 2081],
-        &mut [7; 2081],
-        &mut [7; 2081],
-    );
-}
-
-fn few_ends() {
-    asked(
-        b"2080 ends",
-        &mut [7; 65],
-        &mut [7; 2080],
-        &mut [7; 2081],
-        &mut [7; 2081],
-    );
-}
-
-fn few_blocks() {
-    asked(
-        b"2080 blocks",
-        &mut [7; 65],
-        &mut [7; 2081],
-        &mut [7; 2080],
-        &mut [7; 2081],
-    );
-}
-
-fn few_adjustments() {
-    asked(
-        b"2080 adjustments",
-        &mut [7; 65],
-        &mut [7; 2081],
-        &mut [7; 2081],
-        &mut [7; 2080],
-    );
+    text(words);
+    number(reply.refusal);
+    end();
 }
 
 // expansions; refusal, intervals. 9.
 fn room(expansions: u32) {
     let reply = irr::room(expansions);
-    line(b"room", &[expansions, reply.refusal, reply.intervals]);
+    text(b"room");
+    number(expansions);
+    number(reply.refusal);
+    number(reply.intervals);
+    end();
 }
 
 pub fn expansions() {

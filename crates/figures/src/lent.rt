@@ -1,7 +1,9 @@
 // Lent tables, right and wrong: rules 11 to 16, each at its edge on both sides. The refusal is that of placing bucket 0.
-use crate::print::line;
+use crate::print::placed;
+use crate::print::text;
+use crate::read::place;
 use model::table::Header;
-ghost use Prim.Native.Nat.{_<_};
+ghost use Prim.Native.Nat.{_<_, _≤_};
 
 // A case is 11 numbers: B, G, k; two tops, two ends, two blocks, two adjustments.
 const CASES: [u32; 275] = [
@@ -314,9 +316,9 @@ pub fn tables() {
         tried(i as u32, 11 * i);
         i += 1;
     }
-    short_ends();
-    short_blocks();
-    short_adjustments();
+    short(b"one end too few", 1, 2, 2);
+    short(b"one block too few", 2, 1, 2);
+    short(b"one adjustment too few", 2, 2, 1);
 }
 
 fn case(at: usize) -> u32
@@ -325,51 +327,59 @@ fn case(at: usize) -> u32
     CASES[at]
 }
 
-fn tried(i: u32, at: usize)
-    requires { ⌜ at < 265 ⌝ }
+fn pair(at: usize) -> [u32; 2]
+    requires { ⌜ at < 274 ⌝ }
 {
-    let h = Header {
+    [case(at), case(at + 1)]
+}
+
+fn header(at: usize) -> Header
+    requires { ⌜ at < 273 ⌝ }
+{
+    Header {
         buckets: case(at),
         block_count: case(at + 1),
         interval_count: case(at + 2),
-    };
-    let tops = [case(at + 3), case(at + 4)];
-    let ends = [case(at + 5), case(at + 6)];
-    let blocks = [case(at + 7), case(at + 8)];
-    let adjustments = [case(at + 9), case(at + 10)];
-    let reply = irr::place(h, &tops, &ends, &blocks, &adjustments, 0);
-    line(b"table", &[i, reply.refusal, reply.bin, reply.position]);
-}
-
-// One array an entry short.
-fn short_ends() {
-    let reply = irr::place(right(), &[2, 3], &[7], &[0, 1], &[0, 7], 0);
-    line(
-        b"one end too few",
-        &[reply.refusal, reply.bin, reply.position],
-    );
-}
-
-fn short_blocks() {
-    let reply = irr::place(right(), &[2, 3], &[7, 10], &[0], &[0, 7], 0);
-    line(
-        b"one block too few",
-        &[reply.refusal, reply.bin, reply.position],
-    );
-}
-
-fn short_adjustments() {
-    let reply = irr::place(right(), &[2, 3], &[7, 10], &[0, 1], &[0], 0);
-    line(
-        b"one adjustment too few",
-        &[reply.refusal, reply.bin, reply.position],
-    );
-}
-
-fn right() -> Header {
-    Header {
-        buckets: 10,
-        block_count: 2,
-        interval_count: 2,
     }
+}
+
+fn tried(i: u32, at: usize)
+    requires { ⌜ at < 265 ⌝ }
+{
+    let tops = pair(at + 3);
+    let ends = pair(at + 5);
+    let blocks = pair(at + 7);
+    let adjustments = pair(at + 9);
+    place(
+        b"table",
+        i,
+        header(at),
+        &tops,
+        &ends,
+        &blocks,
+        &adjustments,
+        0,
+    );
+}
+
+// So many ends, blocks and adjustments of a right table are lent.
+fn short(words: &[u8], ends: usize, blocks: usize, adjustments: usize)
+    requires { ⌜ ends ≤ 2 ⌝ }
+    requires { ⌜ blocks ≤ 2 ⌝ }
+    requires { ⌜ adjustments ≤ 2 ⌝ }
+{
+    let tops = [2u32, 3];
+    let all_ends = [7u32, 10];
+    let all_blocks = [0u32, 1];
+    let all_adjustments = [0u32, 7];
+    let reply = irr::place(
+        header(0),
+        &tops,
+        &all_ends[..ends],
+        &all_blocks[..blocks],
+        &all_adjustments[..adjustments],
+        0,
+    );
+    text(words);
+    placed(reply);
 }

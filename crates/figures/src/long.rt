@@ -1,5 +1,5 @@
 // Tables of the most blocks and intervals, and of one more: rule 11.
-use crate::print::line;
+use crate::read::place;
 use model::table::Header;
 ghost use Prim.Native.Nat.{_≤_};
 ghost use mathlib.Core.Path.{_≡_};
@@ -28,13 +28,11 @@ fn blocks(count: u32) {
         block_count: count,
         interval_count: count,
     };
-    let up = rising(1);
-    let from_zero = rising(0);
-    let reply = irr::place(h, &up, &up, &from_zero, &from_zero, 0);
-    line(
-        b"blocks",
-        &[count, reply.refusal, reply.bin, reply.position],
-    );
+    let tops = rising(1);
+    let up = &tops[..];
+    let blocks = rising(0);
+    let from_zero = &blocks[..];
+    place(b"blocks", count, h, up, up, from_zero, from_zero, 0);
 }
 
 // One block has all intervals, of one bucket each.
@@ -44,13 +42,10 @@ fn intervals(count: u32) {
         block_count: 1,
         interval_count: count,
     };
-    let up = rising(1);
-    let zeros = [0u32; 2082];
-    let reply = irr::place(h, &[1], &up, &zeros, &zeros, 0);
-    line(
-        b"intervals",
-        &[count, reply.refusal, reply.bin, reply.position],
-    );
+    let ends = rising(1);
+    let none = [0u32; 2082];
+    let zeros = &none[..];
+    place(b"intervals", count, h, &[1], &ends, zeros, zeros, 0);
 }
 
 pub fn tables() {

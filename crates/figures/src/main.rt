@@ -11,9 +11,8 @@ fn main() {
     fresh::sizes();
     fresh::rooms();
     fresh::expansions();
-    read::places();
-    read::finds();
-    read::bin_sizes();
+    read::map_3();
+    read::map_5();
     lent::tables();
     long::tables();
     keep::saves();

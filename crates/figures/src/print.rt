@@ -1,21 +1,35 @@
-// Lines of a word and numbers on standard output.
+// Words and numbers on standard output.
 use libc::STDOUT_FILENO;
+use model::reply::PlaceReply;
 
-pub fn line(text: &[u8], numbers: &[u32]) {
-    io::write_all(STDOUT_FILENO, text);
-    each(numbers);
-    io::write_all(STDOUT_FILENO, b"\n");
+pub fn text(words: &[u8]) {
+    io::write_all(STDOUT_FILENO, words);
 }
 
-fn each(numbers: &[u32]) {
+pub fn number(n: u32) {
+    text(b" ");
+    io::print_decimal(STDOUT_FILENO, n as u64);
+}
+
+// The first `count` numbers.
+pub fn first(numbers: &[u32], count: usize) {
     let mut i: usize = 0;
-    while i < numbers.len() {
-        number(numbers[i]);
+    while i < count {
+        if i < numbers.len() {
+            number(numbers[i]);
+        }
         i += 1;
     }
 }
 
-fn number(n: u32) {
-    io::write_all(STDOUT_FILENO, b" ");
-    io::print_decimal(STDOUT_FILENO, n as u64);
+pub fn end() {
+    text(b"\n");
+}
+
+// refusal, bin, position
+pub fn placed(reply: PlaceReply) {
+    number(reply.refusal);
+    number(reply.bin);
+    number(reply.position);
+    end();
 }

@@ -1,100 +1,139 @@
 // Placing, finding and bin sizes on the maps of document 01's history after (10, 3) and after (14, 5).
-use crate::print::line;
+use crate::print::end;
+use crate::print::number;
+use crate::print::placed;
+use crate::print::text;
 use model::table::Header;
 
-fn header_3() -> Header {
-    Header {
-        buckets: 10,
-        block_count: 2,
-        interval_count: 2,
-    }
-}
-
-fn header_5() -> Header {
-    Header {
-        buckets: 14,
-        block_count: 4,
-        interval_count: 5,
-    }
-}
-
-// bucket; refusal, bin, position
-fn place_3(bucket: u32) {
-    let reply = irr::place(header_3(), &[2, 3], &[7, 10], &[0, 1], &[0, 7], bucket);
-    line(
-        b"(10, 3) place",
-        &[bucket, reply.refusal, reply.bin, reply.position],
-    );
-}
-
-fn place_5(bucket: u32) {
-    let reply = irr::place(
-        header_5(),
-        &[2, 3, 4, 5],
-        &[6, 7, 10, 11, 14],
-        &[0, 3, 1, 3, 2],
-        &[0, 6, 7, 9, 11],
-        bucket,
-    );
-    line(
-        b"(14, 5) place",
-        &[bucket, reply.refusal, reply.bin, reply.position],
-    );
-}
-
-// bin, position; refusal, bucket
-fn find_5(bin: u32, position: u32) {
-    let reply = irr::find(
-        header_5(),
-        &[2, 3, 4, 5],
-        &[6, 7, 10, 11, 14],
-        &[0, 3, 1, 3, 2],
-        &[0, 6, 7, 9, 11],
-        bin,
-        position,
-    );
-    line(
-        b"(14, 5) find",
-        &[bin, position, reply.refusal, reply.bucket],
-    );
-}
-
-// bin; refusal, buckets
-fn size_5(bin: u32) {
-    let reply = irr::bin_size(
-        header_5(),
-        &[2, 3, 4, 5],
-        &[6, 7, 10, 11, 14],
-        &[0, 3, 1, 3, 2],
-        &[0, 6, 7, 9, 11],
-        bin,
-    );
-    line(b"(14, 5) bin size", &[bin, reply.refusal, reply.buckets]);
+// Places a bucket: n; refusal, bin, position.
+pub fn place(
+    words: &[u8],
+    n: u32,
+    h: Header,
+    tops: &[u32],
+    ends: &[u32],
+    blocks: &[u32],
+    adjustments: &[u32],
+    bucket: u32,
+) {
+    let reply = irr::place(h, tops, ends, blocks, adjustments, bucket);
+    text(words);
+    number(n);
+    placed(reply);
 }
 
 // The slips: a bin is not the bucket mod n; those that stay keep their position; a moved interval has its own adjustment.
 // Then 6 at its edge.
-pub fn places() {
-    place_3(3);
-    place_3(6);
-    place_5(10);
-    place_5(13);
-    place_5(14);
-    place_5(4_294_967_295);
+fn place_3(bucket: u32) {
+    let h = Header {
+        buckets: 10,
+        block_count: 2,
+        interval_count: 2,
+    };
+    place(
+        b"(10, 3) place",
+        bucket,
+        h,
+        &[2, 3],
+        &[7, 10],
+        &[0, 1],
+        &[0, 7],
+        bucket,
+    );
+}
+
+fn place_5(
+    h: Header,
+    tops: &[u32],
+    ends: &[u32],
+    blocks: &[u32],
+    adjustments: &[u32],
+    bucket: u32,
+) {
+    place(
+        b"(14, 5) place",
+        bucket,
+        h,
+        tops,
+        ends,
+        blocks,
+        adjustments,
+        bucket,
+    );
+}
+
+fn places_5(h: Header, tops: &[u32], ends: &[u32], blocks: &[u32], adjustments: &[u32]) {
+    place_5(h, tops, ends, blocks, adjustments, 10);
+    place_5(h, tops, ends, blocks, adjustments, 13);
+    place_5(h, tops, ends, blocks, adjustments, 14);
+    place_5(h, tops, ends, blocks, adjustments, 4_294_967_295);
+}
+
+// bin, position; refusal, bucket
+fn find_5(
+    h: Header,
+    tops: &[u32],
+    ends: &[u32],
+    blocks: &[u32],
+    adjustments: &[u32],
+    bin: u32,
+    position: u32,
+) {
+    let reply = irr::find(h, tops, ends, blocks, adjustments, bin, position);
+    text(b"(14, 5) find");
+    number(bin);
+    number(position);
+    number(reply.refusal);
+    number(reply.bucket);
+    end();
 }
 
 // 7.
-pub fn finds() {
-    find_5(0, 2);
-    find_5(0, 3);
-    find_5(4, 1);
-    find_5(4, 2);
-    find_5(5, 0);
-    find_5(4_294_967_295, 4_294_967_295);
+fn finds_5(h: Header, tops: &[u32], ends: &[u32], blocks: &[u32], adjustments: &[u32]) {
+    find_5(h, tops, ends, blocks, adjustments, 0, 2);
+    find_5(h, tops, ends, blocks, adjustments, 0, 3);
+    find_5(h, tops, ends, blocks, adjustments, 4, 1);
+    find_5(h, tops, ends, blocks, adjustments, 4, 2);
+    find_5(h, tops, ends, blocks, adjustments, 5, 0);
+    find_5(
+        h,
+        tops,
+        ends,
+        blocks,
+        adjustments,
+        4_294_967_295,
+        4_294_967_295,
+    );
 }
 
-pub fn bin_sizes() {
-    size_5(3);
-    size_5(4);
-    size_5(5);
+// bin; refusal, buckets
+fn size_5(h: Header, tops: &[u32], ends: &[u32], blocks: &[u32], adjustments: &[u32], bin: u32) {
+    let reply = irr::bin_size(h, tops, ends, blocks, adjustments, bin);
+    text(b"(14, 5) bin size");
+    number(bin);
+    number(reply.refusal);
+    number(reply.buckets);
+    end();
+}
+
+pub fn map_3() {
+    place_3(3);
+    place_3(6);
+}
+
+pub fn map_5() {
+    let h = Header {
+        buckets: 14,
+        block_count: 4,
+        interval_count: 5,
+    };
+    let tops = &[2, 3, 4, 5][..];
+    let ends = &[6, 7, 10, 11, 14][..];
+    let blocks = &[0, 3, 1, 3, 2][..];
+    let adjustments = &[0, 6, 7, 9, 11][..];
+    places_5(h, tops, ends, blocks, adjustments);
+    finds_5(h, tops, ends, blocks, adjustments);
+    size_5(h, tops, ends, blocks, adjustments, 3);
+    size_5(h, tops, ends, blocks, adjustments, 4);
+    size_5(h, tops, ends, blocks, adjustments, 5);
 }

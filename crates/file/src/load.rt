@@ -3,27 +3,16 @@
 use crate::number::header_of;
 use crate::number::number_at;
 use model::table::Header;
-use table::check::due_below;
-use table::check::header_outside;
+use soundness::header_outside;
+use table::due_below;
 ghost use mathlib.Core.Path.{_≡_};
 ghost use mathlib.Core.Bool.{false};
-ghost use Prim.Native.Nat.{ℕ, _+_, _*_, min, _≤_, _<_};
+ghost use Prim.Native.Nat.{ℕ, _+_, _*_, _≤_, _<_};
 ghost use lib.ListN.{length, getD};
 ghost use Rattle.model.specs.Basics.{from};
 ghost use Rattle.model.specs.Table.{arrays, table, over, written};
 ghost use Rattle.model.specs.Place.{held};
-ghost use Rattle.model.specs.Refusal.{
-  outside,
-  rises,
-  headerOutside,
-  topsWrong,
-  endsWrong,
-  blocksWrong,
-  holdingsWrong,
-  adjustmentOf,
-  roomShort,
-  first,
-};
+ghost use Rattle.model.specs.Refusal.{rises, topsWrong, endsWrong, blocksWrong, holdingsWrong, adjustmentOf, roomShort, first};
 ghost use Rattle.model.specs.Saved.{number, loadedHeader, loadedArrays, fileWrong};
 ghost use Rattle.model.specs.Calls.{loadTests};
 ghost use Rattle.file.specs.Counted.{fileArrays, Counted, Walkable};

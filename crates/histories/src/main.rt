@@ -1,48 +1,113 @@
 // Plays histories through the public calls, compares every map with a full directory of buckets, and prints what it counted.
 // The random ones come from a fixed seed, so that a run is like any other.
-mod compare;
-mod counts;
-mod directory;
+mod ask;
 mod history;
 mod print;
-mod total;
 
-use crate::counts::draw;
-use crate::history::Style;
 use crate::history::play;
-use crate::total::least;
-use crate::total::plus;
+use crate::print::end;
+use crate::print::line;
+use crate::print::number;
+use crate::print::text;
+use directory::state::State;
+use directory::state::below;
+use directory::state::draw;
+use directory::state::fresh;
+use directory::total::least;
+use directory::total::plus;
+use model::table::Header;
 
 // So many random histories of so many growths each, from at most `first` buckets.
-fn random(histories: u32, first: u32, style: Style, growths: u32, counts: &mut [u32; 20]) {
+fn random(
+    before: State,
+    histories: u32,
+    first: u32,
+    most_buckets: u32,
+    most_bins: u32,
+    growths: u32,
+) -> State {
+    let mut s = before;
     let mut i: u32 = 0;
     while i < histories {
-        one(first, style, growths, counts);
+        let begin = started(s, first);
+        let after = play(begin, most_buckets, most_bins, growths);
+        s = after;
+        i += 1;
+    }
+    s
+}
+
+fn started(s: State, first: u32) -> State {
+    let seed = draw(s.seed);
+    let buckets = plus(below(seed, first), 1);
+    let seed = draw(seed);
+    let bins = plus(below(seed, least(buckets, 8)), 1);
+    fresh(s, seed, buckets, bins)
+}
+
+fn refusals(s: State) {
+    let mut i: usize = 1;
+    while i < 10 {
+        refusal(i as u32, s.refused[i]);
         i += 1;
     }
 }
 
-fn one(first: u32, style: Style, growths: u32, counts: &mut [u32; 20]) {
-    let buckets = plus(draw(counts, first), 1);
-    let bins = plus(draw(counts, least(buckets, 8)), 1);
-    play(buckets, bins, style, growths, counts);
+fn refusal(i: u32, count: u32) {
+    if count != 0 {
+        text(b"growths refused by");
+        number(i);
+        number(count);
+        end();
+    }
 }
 
-fn all(counts: &mut [u32; 20]) {
-    counts::start_random(counts, 20_261_115);
-    random(40, 12, style(4, 2), 30, counts);
-    random(10, 60, style(30, 5), 30, counts);
-    random(4, 200, style(300, 30), 24, counts);
-    random(2, 30, style(5, 1), 150, counts);
-    play(200, 1, style(0, 0), 116, counts);
+fn print_histories(s: State) {
+    line(b"histories", s.histories);
+    line(b"accepted growths", s.accepted);
+    line(b"most intervals", s.intervals);
 }
 
-fn style(buckets: u32, bins: u32) -> Style {
-    Style { buckets, bins }
+fn print_comparisons(s: State) {
+    line(b"buckets", s.buckets_seen);
+    line(b"bins", s.bins_seen);
+    line(b"rows", s.rows_seen);
+    line(b"comparisons", s.compared);
+    line(b"failed", s.failed);
 }
 
 fn main() {
-    let mut counts = [0u32; 20];
-    all(&mut counts);
-    counts::print(&counts);
+    let s = State {
+        histories: 0,
+        accepted: 0,
+        refused: [0; 10],
+        intervals: 0,
+        buckets_seen: 0,
+        bins_seen: 0,
+        rows_seen: 0,
+        compared: 0,
+        failed: 0,
+        seed: 20_261_115,
+        buckets: 0,
+        bins: 0,
+        blocks: 0,
+        old_buckets: 0,
+        moved: 0,
+        next: 0,
+        asked_buckets: 0,
+        asked_bins: 0,
+        header: Header {
+            buckets: 0,
+            block_count: 0,
+            interval_count: 0,
+        },
+    };
+    let s = random(s, 40, 12, 4, 2, 30);
+    let s = random(s, 10, 60, 30, 5, 30);
+    let s = random(s, 4, 200, 300, 30, 24);
+    let s = random(s, 2, 30, 5, 1, 150);
+    let s = play(fresh(s, s.seed, 200, 1), 0, 0, 116);
+    print_histories(s);
+    refusals(s);
+    print_comparisons(s);
 }

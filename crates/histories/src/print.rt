@@ -1,21 +1,22 @@
-// Lines of a word and numbers on standard output.
+// Words and numbers on standard output.
 use libc::STDOUT_FILENO;
 
-pub fn line(text: &[u8], numbers: &[u32]) {
-    io::write_all(STDOUT_FILENO, text);
-    each(numbers);
-    io::write_all(STDOUT_FILENO, b"\n");
+pub fn text(words: &[u8]) {
+    io::write_all(STDOUT_FILENO, words);
 }
 
-fn each(numbers: &[u32]) {
-    let mut i: usize = 0;
-    while i < numbers.len() {
-        number(numbers[i]);
-        i += 1;
-    }
-}
-
-fn number(n: u32) {
-    io::write_all(STDOUT_FILENO, b" ");
+pub fn number(n: u32) {
+    text(b" ");
     io::print_decimal(STDOUT_FILENO, n as u64);
+}
+
+pub fn end() {
+    text(b"\n");
+}
+
+// A line of words and one number.
+pub fn line(words: &[u8], n: u32) {
+    text(words);
+    number(n);
+    end();
 }

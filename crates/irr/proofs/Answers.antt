@@ -4,66 +4,23 @@ use mathlib.Core.Path.{_≡_, sym, _∙_, ap}
 use mathlib.Core.Bool.{true, false}
 use mathlib.Core.List.{List, [], _++_}
 use mathlib.Core.Logic.{⊎-elim}
-use native.Mathlib.Nat.{zero-add}
 use native.Mathlib.Omega.{arith}
-use lib.ListN.{length, getD}
-use borrow.Author.Tests.{lt-ltb, le-ltb, le-leb, lt-leb, ne-eqb, eqb-true, not-false}
-use Rattle.model.specs.Basics.{if_then_else_, from}
+use lib.ListN.{length}
+use borrow.Author.Tests.{lt-ltb, le-ltb, le-leb, lt-leb, eqb-true, not-false}
+use Rattle.model.specs.Basics.{if_then_else_}
 use Rattle.model.specs.Table.{Shape, Arrays, arrays, table, header, over, written}
 use Rattle.model.specs.Place.{located, locatedRefusal}
 use Rattle.model.specs.Refusal.{Test, first, roomShort, bucketPast}
 use Rattle.model.specs.Sound.{Sound}
 use Rattle.model.specs.Initial.{initial}
-use Rattle.model.specs.Room.{room}
 use Rattle.model.specs.Saved.{saved, savedLength, loadedHeader, loadedArrays, fileWrong}
-use Rattle.model.specs.Calls.{
-  answer,
-  noHeader,
-  tableTests,
-  sizeTests,
-  tableReply,
-  arraysAfter,
-  initialRefusal,
-  initialReply,
-  initialArrays,
-  roomRefusal,
-  roomReply,
-  saveTests,
-  saveRefusal,
-  saveReply,
-  saveBytes,
-  loadTests,
-  loadRefusal,
-  loadReply,
-  loadArrays,
-  placeAnswer,
-  placeTests,
-  placeReply,
-  findAnswer,
-  findTests,
-  findReply,
-  binSizeAnswer,
-  binSizeTests,
-  binSizeReply,
-}
+use Rattle.model.specs.Calls.{answer, noHeader, tableTests, sizeTests, tableReply, arraysAfter, initialRefusal, initialReply, initialArrays, saveTests, saveRefusal, saveReply, saveBytes, loadTests, loadRefusal, loadReply, loadArrays, placeAnswer, placeTests, placeReply, findAnswer, findTests, findReply, binSizeAnswer, binSizeTests, binSizeReply}
 use Rattle.model.specs.declared.table.Header.{Header}
-use Rattle.model.specs.declared.reply.TableReply.{TableReply}
-use Rattle.model.specs.declared.reply.RoomReply.{RoomReply}
-use Rattle.model.specs.declared.reply.SaveReply.{SaveReply}
-use Rattle.model.specs.declared.reply.LoadReply.{LoadReply}
-use Rattle.model.specs.declared.reply.PlaceReply.{PlaceReply}
-use Rattle.model.specs.declared.reply.FindReply.{FindReply}
-use Rattle.model.specs.declared.reply.BinSizeReply.{BinSizeReply}
 use Rattle.model.proofs.Counts.{below-or}
-use Rattle.model.proofs.Refusals
-use Rattle.model.proofs.Refusals.{or-right, first-clear, first-here, first-skip, first-found, first-after, accepted}
-use Rattle.model.proofs.Tables.{getD-from}
+use Rattle.model.proofs.Refusals.{or-right, first-clear, first-here, first-skip, first-found, first-after, accepted, refused}
 use Rattle.model.proofs.Bytes.{saved-same}
 use Rattle.model.proofs.Soundness.{sound-iff, table-numbered}
-
--- a refused call gives its refusal
-pub refused : {A : Type 0} (r : ℕ) (a b : A) → (r ≡ 0 → ⊥) → b ≡ answer r a b
-refused r a b n = sym (Refusals.refused r a b n)
+use Rattle.lookup.proofs.Searches.{located-refusal}
 
 module _ (h : Header) (a : Arrays) (r : ℕ) (e : r ≡ first (tableTests h a)) where
   -- a table that the check passes is sound
@@ -80,25 +37,16 @@ module _ (h : Header) (a : Arrays) (r : ℕ) (e : r ≡ first (tableTests h a)) 
 
   pub place-refused : (x : ℕ) → (r ≡ 0 → ⊥) → record { refusal = r; bin = 0; position = 0 } ≡ placeReply h a x
   unfolding placeReply placeAnswer
-  place-refused x n = rw (← stands (placeTests (table h a) x) n) (refused r _ _ n)
-
-  -- the search's refusal number is that of placing's test
-  located-refusal : (x : ℕ) → locatedRefusal (located (table h a) x) ≡ first (placeTests (table h a) x)
-  unfolding locatedRefusal located first placeTests bucketPast if_then_else_
-  located-refusal x =
-      ⊎-elim
-      (λ l. rw (lt-ltb x (table h a .buckets) l, lt-leb (table h a .buckets) x l))
-      (λ l. rw (le-ltb x (table h a .buckets) l, le-leb (table h a .buckets) x l))
-      (below-or x (table h a .buckets))
+  place-refused x n = rw (← stands (placeTests (table h a) x) n) (sym (refused r _ _ n))
 
   pub place-accepted : (x : ℕ) → r ≡ 0 → placeAnswer (locatedRefusal (located (table h a) x)) (table h a) x ≡ placeReply h a x
   unfolding placeReply
   place-accepted x z =
-      ap (λ q. placeAnswer q (table h a) x) (located-refusal x ∙ passed (placeTests (table h a) x) z)
+      ap (λ q. placeAnswer q (table h a) x) (located-refusal (table h a) x ∙ passed (placeTests (table h a) x) z)
 
   pub find-refused : (y p : ℕ) → (r ≡ 0 → ⊥) → record { refusal = r; bucket = 0 } ≡ findReply h a y p
   unfolding findReply findAnswer
-  find-refused y p n = rw (← stands (findTests (table h a) y p) n) (refused r _ _ n)
+  find-refused y p n = rw (← stands (findTests (table h a) y p) n) (sym (refused r _ _ n))
 
   pub find-accepted
       : (y p : ℕ) → r ≡ 0 → findAnswer (first (findTests (table h a) y p)) (table h a) y p ≡ findReply h a y p
@@ -107,7 +55,7 @@ module _ (h : Header) (a : Arrays) (r : ℕ) (e : r ≡ first (tableTests h a)) 
 
   pub size-refused : (y : ℕ) → (r ≡ 0 → ⊥) → record { refusal = r; buckets = 0 } ≡ binSizeReply h a y
   unfolding binSizeReply binSizeAnswer
-  size-refused y n = rw (← stands (binSizeTests (table h a) y) n) (refused r _ _ n)
+  size-refused y n = rw (← stands (binSizeTests (table h a) y) n) (sym (refused r _ _ n))
 
   pub size-accepted : (y : ℕ) → r ≡ 0 → binSizeAnswer (first (binSizeTests (table h a) y)) (table h a) y ≡ binSizeReply h a y
   unfolding binSizeReply
@@ -129,7 +77,7 @@ module _ (s : Shape) (out : Arrays) where
       : (r : ℕ) → r ≡ initialRefusal s out → (r ≡ 0 → ⊥)
       → (record { refusal = r; moved = 0; header = noHeader } ≡ initialReply s out) × (out ≡ initialArrays s out)
   unfolding initialReply tableReply initialArrays arraysAfter
-  initial-refused r e n = (rw (← e) (refused r _ _ n), rw (← e) (refused r _ _ n))
+  initial-refused r e n = (rw (← e) (sym (refused r _ _ n)), rw (← e) (sym (refused r _ _ n)))
 
   pub initial-accepted
       : (r : ℕ) → r ≡ initialRefusal s out → r ≡ 0
@@ -140,20 +88,6 @@ module _ (s : Shape) (out : Arrays) where
   initial-accepted r e z =
       (sym (accepted (initialRefusal s out) _ _ (sym e ∙ z)), sym (accepted (initialRefusal s out) _ _ (sym e ∙ z)))
 
--- ROOM
-
--- a constant table that the rule computes, entry by entry, has the rule at every entry
-pub room-rule : (table : List ℕ) → table ≡ from room 0 65 → (m : ℕ) → m ≤ 64 → getD table m 0 ≡ room m
-room-rule table e m l = ap (λ xs. getD xs m 0) e ∙ getD-from room 0 65 m 0 (omega arith) ∙ ap room (zero-add m)
-
-pub room-refused : (m : ℕ) → 64 < m → record { refusal = 9; intervals = 0 } ≡ roomReply m
-unfolding roomReply roomRefusal answer first if_then_else_
-room-refused m l = rw (lt-ltb 64 m l)
-
-pub room-accepted : (m v : ℕ) → m ≤ 64 → v ≡ room m → record { refusal = 0; intervals = v } ≡ roomReply m
-unfolding roomReply roomRefusal answer first if_then_else_
-room-accepted m v l e = rw (le-ltb 64 m l, e)
-
 -- SAVING
 
 module _ (h : Header) (a : Arrays) (r : ℕ) (e : r ≡ first (tableTests h a)) (buffer : List ℕ) where
@@ -162,7 +96,7 @@ module _ (h : Header) (a : Arrays) (r : ℕ) (e : r ≡ first (tableTests h a)) 
       : (r ≡ 0 → ⊥) → (record { refusal = r; length = 0 } ≡ saveReply h a buffer) × (buffer ≡ saveBytes h a buffer)
   unfolding saveReply saveBytes saveRefusal
   save-refused n =
-      (rw (← stands h a r e _ n) (refused r _ _ n), rw (← stands h a r e _ n) (refused r _ _ n))
+      (rw (← stands h a r e _ n) (sym (refused r _ _ n)), rw (← stands h a r e _ n) (sym (refused r _ _ n)))
 
   save-next : r ≡ 0 → saveRefusal h a buffer ≡ first (saveTests h buffer)
   unfolding saveRefusal saveTests
@@ -204,7 +138,7 @@ module _ (f : List ℕ) (out : Arrays) where
       : (r : ℕ) → r ≡ loadRefusal f out → (r ≡ 0 → ⊥)
       → (record { refusal = r; header = noHeader } ≡ loadReply f out) × (out ≡ loadArrays f out)
   unfolding loadReply loadArrays arraysAfter
-  load-refused r e n = (rw (← e) (refused r _ _ n), rw (← e) (refused r _ _ n))
+  load-refused r e n = (rw (← e) (sym (refused r _ _ n)), rw (← e) (sym (refused r _ _ n)))
 
   pub load-accepted
       : (r : ℕ) (h : Header) → r ≡ loadRefusal f out → r ≡ 0 → h ≡ loadedHeader f

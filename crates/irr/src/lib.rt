@@ -2,10 +2,6 @@
 // number of document 01. A lent table is a header and four arrays: tops, ends, blocks, adjustments.
 ghost use mathlib.Core.Path.{_≡_};
 ghost use Rattle.model.specs.Table.{arrays};
-ghost use mathlib.Core.Bool.{false};
-ghost use Rattle.model.specs.Refusal.{roomShort};
-ghost use Rattle.table.specs.Lent.{lent, LentSound};
-ghost use Rattle.irr.specs.Replies.{GrowReply, MovesReply};
 ghost use Rattle.model.specs.Calls.{
   initialReply,
   initialArrays,
@@ -51,11 +47,11 @@ pub fn initial(
         ⌝ }
 {
     if sizes::room_short(tops, ends, blocks, adjustments) {
-        return refused_table(21);
+        return sizes::refused_table(21);
     }
     let wrong = sizes::size_refusal(buckets, bins);
     if wrong != 0 {
-        return refused_table(wrong);
+        return sizes::refused_table(wrong);
     }
     sizes::write_initial(buckets, bins, tops, ends, blocks, adjustments);
     TableReply {
@@ -65,20 +61,6 @@ pub fn initial(
             buckets,
             block_count: 1,
             interval_count: 1,
-        },
-    }
-}
-
-fn refused_table(refusal: u32) -> TableReply
-    ensures { λ r. ⌜ r ≡ record { refusal = refusal; moved = 0; header = record { buckets = 0; «block_count» = 0; «interval_count» = 0 } } ⌝ }
-{
-    TableReply {
-        refusal,
-        moved: 0,
-        header: Header {
-            buckets: 0,
-            block_count: 0,
-            interval_count: 0,
         },
     }
 }
@@ -113,13 +95,13 @@ pub fn expand(
         ⌝ }
 {
     if sizes::room_short(new_tops, new_ends, new_blocks, new_adjustments) {
-        return refused_table(21);
+        return sizes::refused_table(21);
     }
-    let refusal = table::check::check(header, tops, ends, blocks, adjustments);
+    let refusal = soundness::check(header, tops, ends, blocks, adjustments);
     if refusal != 0 {
-        return refused_table(refusal);
+        return sizes::refused_table(refusal);
     }
-    grown(
+    growth::grown(
         header,
         tops,
         ends,
@@ -132,64 +114,6 @@ pub fn expand(
         new_blocks,
         new_adjustments,
     )
-}
-
-// The same of a sound table, with room for any table.
-fn grown(
-    header: Header,
-    tops: &[u32],
-    ends: &[u32],
-    blocks: &[u32],
-    adjustments: &[u32],
-    buckets: u32,
-    bins: u32,
-    new_tops: &mut [u32],
-    new_ends: &mut [u32],
-    new_blocks: &mut [u32],
-    new_adjustments: &mut [u32],
-) -> TableReply
-    requires { ⌜ LentSound header (now tops) (now ends) (now blocks) (now adjustments) ⌝ }
-    requires { ⌜ roomShort (arrays (now «new_tops») (now «new_ends») (now «new_blocks») (now «new_adjustments»)) ≡ false ⌝ }
-    ensures { λ r.
-        ⌜
-        GrowReply (lent header (now (tops .entry)) (now (ends .entry)) (now (blocks .entry)) (now (adjustments .entry)))
-        (sizesOf buckets bins)
-        (arrays (now («new_tops» .entry)) (now («new_ends» .entry)) (now («new_blocks» .entry)) (now («new_adjustments» .entry)))
-        (arrays (now («new_tops» .exit)) (now («new_ends» .exit)) (now («new_blocks» .exit)) (now («new_adjustments» .exit)))
-        r
-        ⌝ }
-{
-    let wrong = plan::growth_refusal(header, tops, ends, blocks, adjustments, buckets, bins);
-    if wrong != 0 {
-        return refused_table(wrong);
-    }
-    let growth = expansion::count::measure(header, tops, ends, blocks, adjustments, buckets, bins);
-    if 2_081 < growth.intervals {
-        return refused_table(8);
-    }
-    let block_count = plan::blocks_after(header, tops, ends, blocks, adjustments, buckets, bins);
-    expansion::write::write_expanded(
-        header,
-        tops,
-        ends,
-        blocks,
-        adjustments,
-        buckets,
-        bins,
-        new_tops,
-        new_ends,
-        new_blocks,
-        new_adjustments,
-    );
-    TableReply {
-        refusal: 0,
-        moved: growth.moved,
-        header: Header {
-            buckets,
-            block_count,
-            interval_count: growth.intervals,
-        },
-    }
 }
 
 // The move list of a growth: rows of five numbers from order number `first` on, written to `rows`.
@@ -217,7 +141,7 @@ pub fn relocations(
         (sizesOf buckets bins) first (now (rows .entry))
         ⌝ }
 {
-    let refusal = table::check::check(header, tops, ends, blocks, adjustments);
+    let refusal = soundness::check(header, tops, ends, blocks, adjustments);
     if refusal != 0 {
         return RelocationsReply {
             refusal,
@@ -225,7 +149,7 @@ pub fn relocations(
             total: 0,
         };
     }
-    relocated(
+    growth::relocated(
         header,
         tops,
         ends,
@@ -236,67 +160,6 @@ pub fn relocations(
         first,
         rows,
     )
-}
-
-// The same of a sound table.
-fn relocated(
-    header: Header,
-    tops: &[u32],
-    ends: &[u32],
-    blocks: &[u32],
-    adjustments: &[u32],
-    buckets: u32,
-    bins: u32,
-    first: u32,
-    rows: &mut [u32],
-) -> RelocationsReply
-    requires { ⌜ LentSound header (now tops) (now ends) (now blocks) (now adjustments) ⌝ }
-    ensures { λ r.
-        ⌜
-        MovesReply (lent header (now (tops .entry)) (now (ends .entry)) (now (blocks .entry)) (now (adjustments .entry)))
-        (sizesOf buckets bins) first (now (rows .entry)) (now (rows .exit)) r
-        ⌝ }
-{
-    let wrong = plan::growth_refusal(header, tops, ends, blocks, adjustments, buckets, bins);
-    if wrong != 0 {
-        return RelocationsReply {
-            refusal: wrong,
-            written: 0,
-            total: 0,
-        };
-    }
-    let total = relocations::relocation_count(
-        header,
-        tops,
-        ends,
-        blocks,
-        adjustments,
-        buckets,
-        bins,
-    );
-    if total < first {
-        return RelocationsReply {
-            refusal: 9,
-            written: 0,
-            total: 0,
-        };
-    }
-    let written = relocations::write_relocations(
-        header,
-        tops,
-        ends,
-        blocks,
-        adjustments,
-        buckets,
-        bins,
-        first,
-        rows,
-    );
-    RelocationsReply {
-        refusal: 0,
-        written,
-        total,
-    }
 }
 
 // The bin and position of a bucket.
@@ -310,7 +173,7 @@ pub fn place(
 ) -> PlaceReply
     ensures { λ r. ⌜ r ≡ placeReply header (arrays (now (tops .entry)) (now (ends .entry)) (now (blocks .entry)) (now (adjustments .entry))) bucket ⌝ }
 {
-    let refusal = table::check::check(header, tops, ends, blocks, adjustments);
+    let refusal = soundness::check(header, tops, ends, blocks, adjustments);
     if refusal != 0 {
         return PlaceReply {
             refusal,
@@ -318,7 +181,7 @@ pub fn place(
             position: 0,
         };
     }
-    table::read::placed(header, tops, ends, blocks, adjustments, bucket)
+    lookup::placed(header, tops, ends, blocks, adjustments, bucket)
 }
 
 // The bucket at a position of a bin.
@@ -333,11 +196,11 @@ pub fn find(
 ) -> FindReply
     ensures { λ r. ⌜ r ≡ findReply header (arrays (now (tops .entry)) (now (ends .entry)) (now (blocks .entry)) (now (adjustments .entry))) bin position ⌝ }
 {
-    let refusal = table::check::check(header, tops, ends, blocks, adjustments);
+    let refusal = soundness::check(header, tops, ends, blocks, adjustments);
     if refusal != 0 {
         return FindReply { refusal, bucket: 0 };
     }
-    table::read::found(header, tops, ends, blocks, adjustments, bin, position)
+    lookup::found(header, tops, ends, blocks, adjustments, bin, position)
 }
 
 // The number of buckets in a bin.
@@ -351,99 +214,21 @@ pub fn bin_size(
 ) -> BinSizeReply
     ensures { λ r. ⌜ r ≡ binSizeReply header (arrays (now (tops .entry)) (now (ends .entry)) (now (blocks .entry)) (now (adjustments .entry))) bin ⌝ }
 {
-    let refusal = table::check::check(header, tops, ends, blocks, adjustments);
+    let refusal = soundness::check(header, tops, ends, blocks, adjustments);
     if refusal != 0 {
         return BinSizeReply {
             refusal,
             buckets: 0,
         };
     }
-    table::read::sized(header, tops, ends, blocks, adjustments, bin)
+    lookup::sized(header, tops, ends, blocks, adjustments, bin)
 }
-
-// m(m + 1) / 2 + 1 for 0 to 64 expansions.
-const ROOM: [u32; 65] = [
-    1,
-    2,
-    4,
-    7,
-    11,
-    16,
-    22,
-    29,
-    37,
-    46,
-    56,
-    67,
-    79,
-    92,
-    106,
-    121,
-    137,
-    154,
-    172,
-    191,
-    211,
-    232,
-    254,
-    277,
-    301,
-    326,
-    352,
-    379,
-    407,
-    436,
-    466,
-    497,
-    529,
-    562,
-    596,
-    631,
-    667,
-    704,
-    742,
-    781,
-    821,
-    862,
-    904,
-    947,
-    991,
-    1036,
-    1082,
-    1129,
-    1177,
-    1226,
-    1276,
-    1327,
-    1379,
-    1432,
-    1486,
-    1541,
-    1597,
-    1654,
-    1712,
-    1771,
-    1831,
-    1892,
-    1954,
-    2017,
-    2081,
-];
 
 // The intervals to set aside for a number of expansions.
 pub fn room(expansions: u32) -> RoomReply
     ensures { λ r. ⌜ r ≡ roomReply expansions ⌝ }
 {
-    if 64 < expansions {
-        return RoomReply {
-            refusal: 9,
-            intervals: 0,
-        };
-    }
-    RoomReply {
-        refusal: 0,
-        intervals: ROOM[expansions as usize],
-    }
+    room::room(expansions)
 }
 
 // The saved form of a table, written to `buffer`.
@@ -468,7 +253,7 @@ pub fn save(
         (now (buffer .entry))
         ⌝ }
 {
-    let refusal = table::check::check(header, tops, ends, blocks, adjustments);
+    let refusal = soundness::check(header, tops, ends, blocks, adjustments);
     if refusal != 0 {
         return SaveReply { refusal, length: 0 };
     }

@@ -1,47 +1,17 @@
 -- Laws of balanced maps: sizes sum up, every bin has B / n buckets or one more, the old bins hold at most T, and x % n is
 -- balanced. Assumes nothing.
-use Prim.Native.Nat.{ℕ, zero, suc, _+_, _-_, _*_, _/_, _%_, min, _≤_, _<_}
-use mathlib.Core.Path.{_≡_, refl, sym, _∙_, ap}
+use Prim.Native.Nat.{ℕ, zero, suc, _+_, _-_, _*_, _/_, _%_, _≤_, _<_}
+use mathlib.Core.Path.{_≡_, sym, _∙_, ap}
 use mathlib.Core.Logic.{⊎-elim}
-use native.Mathlib.Nat.{
-  add-mul,
-  suc-mul,
-  mul-suc,
-  zero-div,
-  zero-mod,
-  div-add-mod,
-  mod-lt,
-  div-self,
-  mod-self,
-  div-eq-of-lt,
-  mod-eq-of-lt,
-  mul-add-div,
-  mul-add-mod-self-left,
-}
-use native.Mathlib.Numerals.{add-one}
+use native.Mathlib.Nat.{add-mul, mul-suc, zero-div, zero-mod, div-add-mod, mod-lt, div-self, mod-self, div-eq-of-lt, mod-eq-of-lt, mul-add-div, mul-add-mod-self-left}
 use native.Mathlib.Omega.{arith}
 use lib.Dec.{ltb, eqb}
 use Rattle.model.specs.Basics.{bit, sum, count}
 use Rattle.model.specs.Table.{Shape}
 use Rattle.model.specs.Due.{due}
 use Rattle.model.specs.Claims.{dueBelow, BalancedExists, MostHeld}
-use Rattle.model.specs.Balance.{size, Balanced, heldBelow, most, Grows}
-use Rattle.model.proofs.Counts.{
-  bit-lt,
-  bit-eq,
-  bit-ne,
-  below-or,
-  sum-suc,
-  sum-ext,
-  sum-split,
-  sum-const,
-  sum-upper,
-  sum-lower,
-  sum-upper-at,
-  sum-zero,
-  sum-swap,
-  sum-point,
-}
+use Rattle.model.specs.Balance.{size, Balanced, heldBelow, most}
+use Rattle.model.proofs.Counts.{bit-lt, bit-eq, bit-ne, below-or, sum-ext, sum-split, sum-const, sum-upper, sum-lower, sum-upper-at, sum-swap, sum-point}
 use Rattle.model.proofs.Dues.{due-more, due-less, dues-below}
 
 -- the sizes of the first n bins sum to what those bins hold

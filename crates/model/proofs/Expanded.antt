@@ -1,9 +1,9 @@
 -- A growth's table: which buckets stay, and that it is sound. Assumes nothing.
 use Prim.Native.Nat.{ℕ, _≤_, _<_}
-use mathlib.Core.Path.{_≡_, refl, sym, _∙_, ap, subst}
+use mathlib.Core.Path.{_≡_, sym, _∙_, ap, subst}
 use mathlib.Core.Logic.{_⊎_, inl, inr, ⊎-elim}
 use mathlib.Core.Bool.{true, false}
-use mathlib.Core.List.{List, [], _∷_, _++_}
+use mathlib.Core.List.{List, []}
 use native.Mathlib.Omega.{arith}
 use lib.ListN.{length}
 use borrow.Author.Tests.{ltb-false, eq-eqb}
@@ -12,20 +12,9 @@ use Rattle.model.specs.Limits.{maxIntervals}
 use Rattle.model.specs.Table.{Shape, Interval, Table, bins, shape, Arrays, table}
 use Rattle.model.specs.Place.{intervalOf, blockOf, rank}
 use Rattle.model.specs.Due.{dueOfBlock}
-use Rattle.model.specs.Refusal.{Test, first, roomShort}
+use Rattle.model.specs.Refusal.{first, roomShort}
 use Rattle.model.specs.Expansion.{newTops, dueAfter, someFall, filled, drained, expanded}
-use Rattle.model.specs.Calls.{
-  tableTests,
-  sizeTests,
-  growthTests,
-  intervalsFull,
-  answer,
-  tableReply,
-  arraysAfter,
-  expandRefusal,
-  expandReply,
-  expandArrays,
-}
+use Rattle.model.specs.Calls.{tableTests, growthTests, intervalsFull, answer, tableReply, arraysAfter, expandRefusal, expandReply, expandArrays}
 use Rattle.model.specs.TableClaims.{SoundIff}
 use Rattle.model.specs.ExpansionClaims.{ExpandSound, Stays, ExpandStays}
 use Rattle.model.specs.Balance.{size}

@@ -5,18 +5,7 @@ use mathlib.Core.Path.{_≡_, refl, sym, _∙_, ap, ap₂}
 use mathlib.Core.Logic.{⊎-elim}
 use mathlib.Core.Bool.{true, false≢true}
 use mathlib.Core.List.{List}
-use native.Mathlib.Nat.{
-  not-suc-le-zero,
-  zero-add,
-  add-zero,
-  le-of-suc-le-suc,
-  div-add-mod',
-  mod-lt,
-  div-eq-of-lt,
-  mod-eq-of-lt,
-  mul-add-div-right,
-  mul-add-mod-self-right,
-}
+use native.Mathlib.Nat.{zero-add, div-add-mod', mod-lt, div-eq-of-lt, mod-eq-of-lt, mul-add-div-right, mul-add-mod-self-right}
 use native.Mathlib.Omega.{arith}
 use lib.ListN.{getD}
 use borrow.Author.Tests.{eq-eqb, le-leb, lt-ltb, eqb-true, leb-true, ltb-true}

@@ -1,21 +1,21 @@
 -- Laws of an accepted growth: what its tests say of the sizes, the new tops, and the dues of old and new blocks. Assumes nothing.
 use Prim.Native.Nat.{ℕ, zero, suc, _≤_, _<_}
-use mathlib.Core.Path.{_≡_, refl, sym, _∙_, ap, subst}
+use mathlib.Core.Path.{_≡_, sym, _∙_, ap, subst}
 use mathlib.Core.Logic.{_⊎_, inl, inr, ⊎-elim}
 use mathlib.Core.Bool.{Bool, true, false, false≢true}
 use mathlib.Core.List.{List, [], _∷_, _++_}
 use native.Mathlib.Nat.{not-suc-le-zero}
 use native.Mathlib.Omega.{arith}
-use lib.Dec.{leb, ltb, eqb}
+use lib.Dec.{leb}
 use lib.ListN.{length, getD, length-append, List·getD-append}
 use lib.Seq.{getD-append-seam}
 use borrow.Author.Tests.{ltb-false, eqb-false, le-leb, leb-true, lt-ltb, le-ltb, not-true, not-false}
-use Rattle.model.specs.Basics.{if_then_else_, _and_, _or_, sum, before}
+use Rattle.model.specs.Basics.{if_then_else_, _and_, sum, before}
 use Rattle.model.specs.Limits.{maxBuckets, maxBins, maxBlocks}
 use Rattle.model.specs.Table.{Shape, Interval, Table, bins, shape}
 use Rattle.model.specs.Place.{blockOf, held}
 use Rattle.model.specs.Due.{dueOfBlock}
-use Rattle.model.specs.Refusal.{Test, first, outside, sizeOutside, fewBuckets, shrinks, unchanged, blocksFull}
+use Rattle.model.specs.Refusal.{first, sizeOutside, fewBuckets, shrinks, unchanged, blocksFull}
 use Rattle.model.specs.Expansion.{newTops, has, dueAfter, someFall}
 use Rattle.model.specs.Claims.{dueBelow}
 use Rattle.model.specs.Calls.{sizeTests, growthTests}

@@ -1,6 +1,6 @@
 -- The claims on growth and on totals, closed: what the theorems of Moves and Totals ask for is proved. Assumes nothing.
 use Prim.Native.Nat.{ℕ, _<_}
-use mathlib.Core.Path.{_≡_, sym, _∙_, ap}
+use mathlib.Core.Path.{_≡_, _∙_, ap}
 use mathlib.Core.Logic.{⊎-elim}
 use mathlib.Core.List.{List}
 use native.Mathlib.Omega.{arith}
@@ -8,7 +8,6 @@ use lib.ListN.{length}
 use lib.Seq.{getD-take}
 use Rattle.model.specs.Table.{Shape, Interval, Table, table}
 use Rattle.model.specs.Place.{held}
-use Rattle.model.specs.Basics.{count}
 use Rattle.model.specs.Balance.{size}
 use Rattle.model.specs.Expansion.{dueAfter, someFall, drained, filled, expanded}
 use Rattle.model.specs.ExpansionClaims.{ExpandSound, ExpandPlaces, MovedLeast, LeastTotal, LeastTotalDecided}

@@ -6,14 +6,11 @@ use mathlib.Core.List.{List, [], _∷_, _++_, map}
 use native.Mathlib.Omega.{arith}
 use lib.ListN.{length, getD}
 use lib.Seq.{take-all}
-use borrow.Author.Tests.{ltb-false, ne-eqb}
+use borrow.Author.Tests.{ne-eqb}
 use Rattle.model.specs.Basics.{_or_, from, before}
-use Rattle.model.specs.Limits.{maxBlocks, maxIntervals}
 use Rattle.model.specs.Table.{Interval, Arrays, arrays, table, over, written}
-use Rattle.model.specs.Refusal.{roomShort}
 use Rattle.model.specs.Saved.{savedLength, number, loadedHeader, fileWrong}
 use Rattle.model.specs.declared.table.Header.{Header}
-use Rattle.model.proofs.Refusals.{or-left, or-right}
 use Rattle.model.proofs.Rules.{before-some}
 use Rattle.model.proofs.Tables.{getD-from, from-ext, from-append, from-getD, map-from, lentInterval}
 

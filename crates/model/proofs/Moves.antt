@@ -3,7 +3,7 @@
 use Prim.Native.Nat.{ℕ, zero, suc, _+_, _-_, _≤_, _<_}
 use mathlib.Core.Path.{_≡_, refl, sym, _∙_, ap, ap₂}
 use mathlib.Core.Logic.{_⊎_, inl, inr, ⊎-elim}
-use mathlib.Core.Bool.{Bool, true, false, false≢true}
+use mathlib.Core.Bool.{Bool}
 use mathlib.Core.List.{List, [], _∷_, _++_, append-nil}
 use native.Mathlib.Nat.{add-zero, zero-add, add-suc, suc-add}
 use native.Mathlib.Omega.{arith}
@@ -11,11 +11,11 @@ use lib.Dec.{ltb, eqb}
 use lib.ListN.{length, getD, take, drop, length-append, take-append-drop, List·getD-append}
 use lib.Seq.{length-take-le}
 use borrow.Author.Tests.{ltb-false, lt-ltb, le-ltb}
-use Rattle.model.specs.Basics.{if_then_else_, _or_, bit, sum, count, from, joined, before}
+use Rattle.model.specs.Basics.{if_then_else_, bit, sum, count, from, joined, before}
 use Rattle.model.specs.Table.{Shape, Table, bins, shape, firstBin, blockBins, Arrays, table}
 use Rattle.model.specs.Place.{blockOf, bin, position, held}
 use Rattle.model.specs.Due.{dueOfBlock}
-use Rattle.model.specs.Refusal.{Test, first, shrinks}
+use Rattle.model.specs.Refusal.{first, shrinks}
 use Rattle.model.specs.Sound.{Sound}
 use Rattle.model.specs.Expansion.{newTops, expanded, differs, moved}
 use Rattle.model.specs.Relocations.{rowIf, rows}

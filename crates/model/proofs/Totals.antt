@@ -9,27 +9,14 @@ use native.Mathlib.Numerals.{add-one}
 use native.Mathlib.Omega.{arith}
 use lib.ListN.{length, drop, length-append}
 use lib.Seq.{take-append-seam, getD-append-seam}
-use borrow.Author.Tests.{eq-eqb, ne-eqb, lt-ltb, le-ltb}
+use borrow.Author.Tests.{lt-ltb, le-ltb}
 use Rattle.model.specs.Basics.{if_then_else_, before}
 use Rattle.model.specs.Table.{Shape, Table, bins, shape, Arrays, table, header, over, written}
 use Rattle.model.specs.Refusal.{Test, first, roomShort}
 use Rattle.model.specs.Sound.{Sound}
 use Rattle.model.specs.Initial.{initial}
 use Rattle.model.specs.Expansion.{newTops, expanded, moved}
-use Rattle.model.specs.Calls.{
-  answer,
-  tableTests,
-  sizeTests,
-  growthTests,
-  tableReply,
-  arraysAfter,
-  initialRefusal,
-  initialReply,
-  initialArrays,
-  expandRefusal,
-  expandReply,
-  expandArrays,
-}
+use Rattle.model.specs.Calls.{tableTests, sizeTests, growthTests, tableReply, arraysAfter, initialRefusal, initialReply, initialArrays, expandRefusal, expandReply, expandArrays}
 use Rattle.model.specs.Balance.{least, Grows, Growing, leastTotal}
 use Rattle.model.specs.History.{Call, State, started, refusalOf, movedBy, next, movedTotal, shapes}
 use Rattle.model.specs.TableClaims.{InitialSound}
@@ -87,7 +74,7 @@ bins-expanded t s l =
     (λ m. rw (le-ltb (bins t) (s .bins) m) (omega arith))
     (below-or (bins t) (s .bins))
 
-shape-expanded : (t : Table) (s : Shape) → bins t ≤ s .bins → shape (expanded t s) ≡ s
+pub shape-expanded : (t : Table) (s : Shape) → bins t ≤ s .bins → shape (expanded t s) ≡ s
 unfolding shape expanded
 shape-expanded t s l = ap (λ n. record { buckets = s .buckets; bins = n }) (bins-expanded t s l)
 

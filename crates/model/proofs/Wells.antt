@@ -3,10 +3,10 @@
 use Prim.Native.Nat.{ℕ, zero, suc, _+_, _≤_, _<_}
 use mathlib.Core.Path.{_≡_, refl, sym, _∙_, ap}
 use mathlib.Core.List.{List, [], _∷_, map}
-use native.Mathlib.Nat.{add-zero, zero-add, not-suc-le-zero, le-of-suc-le-suc}
+use native.Mathlib.Nat.{not-suc-le-zero, le-of-suc-le-suc}
 use native.Mathlib.Omega.{arith}
-use lib.ListN.{length, getD, drop, length-append, length-map, List·getD-append, List·getD-map}
-use lib.Seq.{getD-take, length-take-le, take-append-seam}
+use lib.ListN.{length, getD, drop, length-map, List·getD-append, List·getD-map}
+use lib.Seq.{getD-take, length-take-le}
 use Rattle.model.specs.Basics.{from, before}
 use Rattle.model.specs.Limits.{maxBuckets, maxBins, maxBlocks, maxIntervals}
 use Rattle.model.specs.Table.{
@@ -32,7 +32,7 @@ use Rattle.model.specs.Balance.{size}
 use Rattle.model.specs.declared.table.Header.{Header}
 use Rattle.model.proofs.Intervals.{Rising, block-at, held-others}
 use Rattle.model.proofs.Listed.{Told, Tells, tells-same}
-use Rattle.model.proofs.Tables.{before-same, getD-over}
+use Rattle.model.proofs.Tables.{length-from, before-same, getD-over, over-long, table-written}
 
 -- ENTRIES
 
@@ -48,27 +48,6 @@ pub due-same
     → (j : ℕ) → j < n → dueOfBlock s xs j ≡ dueOfBlock s ys j
 unfolding dueOfBlock firstBin blockBins
 due-same s xs ys n e j l = rw (before-same xs ys n e j (omega arith), e j l)
-
-pub over-long : (new old : List ℕ) → length new ≤ length (over new old)
-unfolding over
-over-long new old = omega (arith, length-append new (drop (length new) old))
-
--- a list, entry by entry
-pub from-entries
-    : {A : Type 0} (f : ℕ → A) (d : A) (l : List A) (i : ℕ)
-    → ((m : ℕ) → m < length l → f (i + m) ≡ getD l m d) → from f i (length l) ≡ l
-unfolding from
-from-entries f d [] i e = refl
-from-entries {A} f d (x ∷ xs) i e =
-    let head : f i ≡ x = ap f (sym (add-zero i)) ∙ e 0 (omega arith) in
-    let tail : from f (suc i) (length xs) ≡ xs =
-    from-entries f d xs (suc i) (λ m l. ap f (omega arith) ∙ e (suc m) (omega arith)) in
-    cc
-
-pub length-from : {A : Type 0} (f : ℕ → A) (i n : ℕ) → length (from f i n) ≡ n
-unfolding from
-length-from f i zero = refl
-length-from f i (suc n) = ap suc (length-from f (suc i) n)
 
 -- A TABLE THAT IS WRITTEN AND READ
 
@@ -93,39 +72,6 @@ start-at is old i l =
     (λ i l. getD-over (map (λ v. v .end) is) old i (omega (arith, length-map is (λ v. v .end))))
     i l
     ∙ before-cons (map (λ v. v .end) is) i
-
--- the intervals whose columns are written
-intervals-written
-    : (is : List Interval) (ends blocks adjustments : List ℕ)
-    → from
-    (λ i.
-    interval
-    (getD (over (map (λ v. v .end) is) ends) i 0)
-    (getD (over (map (λ v. v .block) is) blocks) i 0)
-    (getD (over (map (λ v. v .adjustment) is) adjustments) i 0))
-    0 (length is)
-    ≡ is
-intervals-written is ends blocks adjustments =
-    from-entries _ (interval 0 0 0) is 0
-    (λ m l.
-    rw (
-      zero-add m,
-      column-at (λ v. v .end) is ends m l,
-      column-at (λ v. v .block) is blocks m l,
-      column-at (λ v. v .adjustment) is adjustments m l,
-    )
-    refl)
-
--- what is read is what was written
-pub table-written : (u : Table) (out : Arrays) → table (header u) (written u out) ≡ u
-unfolding table header written over
-table-written u out =
-    λ i.
-    record {
-      buckets = u .buckets;
-      tops = take-append-seam (u .tops) (drop (length (u .tops)) (out .tops)) i;
-      intervals = intervals-written (u .intervals) (out .ends) (out .blocks) (out .adjustments) i;
-    }
 
 -- A WELL FORMED TABLE
 

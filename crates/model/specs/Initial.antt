@@ -1,5 +1,4 @@
 -- Document 01, 'A fresh map and a growth': the fresh map. Assumes nothing.
-use Prim.Native.Nat.{ℕ}
 use mathlib.Core.List.{[], _∷_}
 use Rattle.model.specs.Table.{Shape, Table, interval}
 

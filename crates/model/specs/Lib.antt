@@ -6,6 +6,7 @@ pub mod Place
 pub mod Due
 pub mod Refusal
 pub mod Sound
+pub mod Lent
 pub mod Initial
 pub mod Expansion
 pub mod Relocations

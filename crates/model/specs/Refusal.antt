@@ -1,5 +1,5 @@
 -- Document 01, 'Who brings a refusal about': the conditions. The order of a call's tests stands in Calls. Assumes nothing.
-use Prim.Native.Nat.{ℕ, _+_, _*_}
+use Prim.Native.Nat.{ℕ}
 use mathlib.Core.Bool.{Bool, not}
 use mathlib.Core.List.{List, [], _∷_}
 use lib.ListN.{length, getD}

@@ -1,5 +1,5 @@
 -- Document 01, 'Move list, placing, finding, keeping': the move list, from the mappings before and after alone. Assumes nothing.
-use Prim.Native.Nat.{ℕ, zero, suc, _/_}
+use Prim.Native.Nat.{ℕ, _/_}
 use mathlib.Core.List.{List, [], _∷_}
 use lib.ListN.{take, drop}
 use Rattle.model.specs.Basics.{if_then_else_, from, joined}

@@ -9,14 +9,14 @@ ghost use Rattle.model.specs.Refusal.{first};
 ghost use Rattle.model.specs.Expansion.{newTops, someFall, plan, planFor};
 ghost use Rattle.model.specs.Calls.{growthTests};
 ghost use Rattle.model.specs.Console.{sizes as sizesOf};
-ghost use Rattle.table.specs.Lent.{lent, LentSound};
+ghost use Rattle.model.specs.Lent.{lent, LentSound};
 ghost use Rattle.plan.specs.Shares.{TopsWithin, DuesBefore, DuesAfter};
 use model::plan::Action;
 use model::plan::Plan;
 use model::table::Header;
 use sizes::size_refusal;
-use table::check::due_below;
-use table::read::bin_count;
+use table::bin_count;
+use table::due_below;
 
 // The number of the first of rules 1 to 5 that the growth breaks, or 0.
 pub fn growth_refusal(

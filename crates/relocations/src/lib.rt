@@ -1,5 +1,5 @@
 // The move list: the rows of the buckets that a growth moves.
-ghost use Prim.Native.Nat.{ℕ, _+_, _-_, _*_, _^_, _<_, _≤_};
+ghost use Prim.Native.Nat.{_+_, _-_, _*_, _^_, _<_, _≤_};
 ghost use mathlib.Core.Path.{_≡_};
 ghost use mathlib.Core.List.{[], _∷_};
 ghost use mathlib.Core.Bool.{true};
@@ -12,16 +12,16 @@ ghost use Rattle.model.specs.Expansion.{expanded, someFall};
 ghost use Rattle.model.specs.Relocations.{rows as rowsOf, page};
 ghost use Rattle.model.specs.Calls.{growthTests};
 ghost use Rattle.model.specs.Console.{sizes as sizesOf};
-ghost use Rattle.table.specs.Lent.{lent, LentSound};
+ghost use Rattle.model.specs.Lent.{lent, LentSound};
 ghost use Rattle.plan.specs.Shares.{DuesAfter};
 ghost use Rattle.relocations.specs.Spans.{placing, placedRow, withRows, partRows, paged, Places, Slotted, Part, Acts};
 use model::plan::Action;
 use model::table::Header;
 use plan::dues_after;
 use plan::plan_at;
-use table::check::due_below;
-use table::read::before;
-use table::read::bin_count;
+use table::before;
+use table::bin_count;
+use table::due_below;
 
 // How the buckets of an interval are placed: the first bin and the number of bins of its block, and its rank adjustment.
 pub struct Placing {

@@ -1,4 +1,6 @@
 // The sizes asked for, the room lent for a new table, and the initial table.
+use model::reply::TableReply;
+use model::table::Header;
 ghost use mathlib.Core.Path.{_≡_};
 ghost use mathlib.Core.Bool.{false};
 ghost use Rattle.model.specs.Table.{arrays, written};
@@ -66,4 +68,19 @@ pub fn write_initial(
     ends[0] = buckets;
     blocks[0] = 0;
     adjustments[0] = 0;
+}
+
+// The reply that refuses a table: its number, and zeros.
+pub fn refused_table(refusal: u32) -> TableReply
+    ensures { λ r. ⌜ r ≡ record { refusal = refusal; moved = 0; header = record { buckets = 0; «block_count» = 0; «interval_count» = 0 } } ⌝ }
+{
+    TableReply {
+        refusal,
+        moved: 0,
+        header: Header {
+            buckets: 0,
+            block_count: 0,
+            interval_count: 0,
+        },
+    }
 }

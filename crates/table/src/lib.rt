@@ -1,3 +1,36 @@
-// Lent tables: the check of rules 11 to 16, and what reads a sound table.
-pub mod check;
-pub mod read;
+// What every layer reads of a table: the entry before a place, the number of bins, and what bins are due.
+use model::table::Header;
+ghost use Prim.Native.Nat.{_+_, _*_, _^_, min, _≤_, _<_};
+ghost use mathlib.Core.Path.{_≡_};
+ghost use lib.ListN.{length};
+ghost use Rattle.model.specs.Basics.{before as entryBefore};
+ghost use Rattle.model.specs.Table.{bins as binsOf};
+ghost use Rattle.model.specs.Lent.{lent, LentSound};
+
+// The entry before place i of xs; 0 stands before the first. The start of interval i, or the first bin of block i.
+pub fn before(xs: &[u32], i: usize) -> u32
+    requires { ⌜ i ≤ length (now xs) ⌝ }
+    ensures { λ r. ⌜ r ≡ entryBefore (now (xs .entry)) i ⌝ }
+{
+    if i == 0 { 0 } else { xs[i - 1] }
+}
+
+// n: the last top.
+pub fn bin_count(h: Header, tops: &[u32], ends: &[u32], blocks: &[u32], adjustments: &[u32]) -> u32
+    requires { ⌜ LentSound h (now tops) (now ends) (now blocks) (now adjustments) ⌝ }
+    ensures { λ r. ⌜ r ≡ binsOf (lent h (now (tops .entry)) (now (ends .entry)) (now (blocks .entry)) (now (adjustments .entry))) ⌝ }
+{
+    before(tops, h.block_count as usize)
+}
+
+// What the bins below m are due, from the quotient and the remainder of B by n.
+pub fn due_below(quotient: u32, remainder: u32, m: u32) -> u32
+    requires { ⌜ m * quotient + min m remainder < 2 ^ 32 ⌝ }
+    ensures { λ r. ⌜ r ≡ m * quotient + min m remainder ⌝ }
+{
+    let whole = m * quotient;
+    if m < remainder {
+        return whole + m;
+    }
+    whole + remainder
+}

@@ -2,14 +2,14 @@
 -- j have their dues. Assumes nothing.
 use Rattle.model.proofs.Rules.{before-next}
 use Rattle.plan.proofs.Turns.{due-turn}
-use Prim.Native.Nat.{ℕ, _-_, _≤_, _<_}
-use mathlib.Core.Path.{_≡_, sym, _∙_}
+use Prim.Native.Nat.{_-_, _≤_}
+use mathlib.Core.Path.{_≡_, sym}
 use native.Mathlib.Omega.{arith}
 use Rattle.model.specs.Basics.{before}
 use Rattle.model.specs.Console.{sizes}
 use Rattle.model.specs.Claims.{dueBelow}
 use Rattle.model.proofs.Holdings.{due-none}
-use Rattle.model.proofs.Shares.{Dues, dues-none, dues-more, dues-whole, due-within}
+use Rattle.model.proofs.Shares.{Dues, dues-none, dues-more, dues-whole}
 use Rattle.plan.proofs.block_dues.Statement.{statement}
 use Rattle.plan.proofs.block_dues.Tie as tie
 

@@ -2,7 +2,7 @@
 use mathlib.Core.List.{[], _∷_}
 use lib.ListN.{length, length-append}
 use Rattle.model.specs.Table.{Shape, Table}
-use Rattle.table.specs.Lent.{lent}
+use Rattle.model.specs.Lent.{lent}
 use Rattle.model.specs.Console.{sizes}
 use Rattle.model.proofs.Growths.{tops-more, tops-same}
 use Rattle.model.proofs.Wells.{tops-length}

@@ -8,7 +8,7 @@ use Rattle.model.specs.Claims.{dueBelow}
 use Rattle.model.proofs.Wells.{Well, tops-length, bins-last, sound-well}
 use Rattle.model.proofs.Growths.{Accepted, accepted}
 use Rattle.model.proofs.Shares.{due-within, new-room, after-more, after-same}
-use Rattle.table.specs.Lent.{lent}
+use Rattle.model.specs.Lent.{lent}
 use Rattle.plan.proofs.Turns.{sound-tops}
 use borrow.Author.Needs.{needs}
 use Rattle.plan.proofs.dues_after.Statement.{statement}

@@ -4,7 +4,7 @@ use Rattle.model.specs.Due.{dueOfBlock}
 use Rattle.model.specs.Console.{sizes}
 use Rattle.model.proofs.Wells.{bins-last, sound-well}
 use Rattle.model.proofs.Shares.{has-dues}
-use Rattle.table.specs.Lent.{lent}
+use Rattle.model.specs.Lent.{lent}
 use Rattle.plan.proofs.Turns.{sound-tops}
 use mathlib.Core.Path.{sym, _∙_, ap}
 use native.Mathlib.Omega.{arith}

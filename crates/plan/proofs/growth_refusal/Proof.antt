@@ -5,7 +5,7 @@ use Rattle.model.specs.Table.{Shape, Table, table}
 use Rattle.model.specs.Refusal.{first}
 use Rattle.model.specs.Calls.{sizeTests}
 use Rattle.model.specs.Console.{sizes}
-use Rattle.table.specs.Lent.{lent}
+use Rattle.model.specs.Lent.{lent}
 use lib.ListN.{length}
 use Rattle.model.proofs.Asked.{asked-sizes, asked-fewer, asked-narrower, asked-full, asked-wider, asked-same, asked-more}
 use Rattle.model.proofs.Wells.{tops-length}

@@ -4,7 +4,7 @@ use Rattle.model.specs.Claims.{dueBelow}
 use Rattle.model.specs.Console.{sizes}
 use Rattle.model.proofs.Growths.{Accepted, accepted}
 use Rattle.model.proofs.Shares.{due-within}
-use Rattle.table.specs.Lent.{lent}
+use Rattle.model.specs.Lent.{lent}
 use Rattle.relocations.proofs.Walking.{rows-counted}
 use borrow.Author.Needs.{needs}
 use Rattle.relocations.proofs.relocation_count.Statement.{statement}

@@ -1,8 +1,7 @@
 -- `figures::keep::bytes` meets its contract. Assumes nothing.
-use Prim.Native.Nat.{_+_, _-_, _≤_}
-use mathlib.Core.Path.{_≡_}
-use borrow.Author.Needs.{needs}
 use lib.ListN.{length}
+use Prim.Native.Nat.{_-_, _≤_}
+use borrow.Author.Needs.{needs}
 use Rattle.figures.proofs.keep.bytes.Statement.{statement}
 use Rattle.figures.proofs.keep.bytes.Tie as tie
 
@@ -15,8 +14,11 @@ abbrev μ-loop : tie.MeasureT-loop
 loop-holds : tie.Need-loop-holds Inv-loop μ-loop
 loop-holds c = search needs
 
-slice-aggregate-line : tie.Need-slice-aggregate-line Inv-loop μ-loop
-slice-aggregate-line c = search needs
+slice-aggregate-text : tie.Need-slice-aggregate-text Inv-loop μ-loop
+slice-aggregate-text c = search needs
+
+text-requires : tie.Need-text-requires Inv-loop μ-loop
+text-requires c κs = search needs
 
 shared-slice-read-wide : tie.Need-shared-slice-read-wide Inv-loop μ-loop
 shared-slice-read-wide c = search needs
@@ -24,11 +26,11 @@ shared-slice-read-wide c = search needs
 wide-requires : tie.Need-wide-requires Inv-loop μ-loop
 wide-requires c κs = search needs
 
-slice-aggregate-line-2 : tie.Need-slice-aggregate-line-2 Inv-loop μ-loop
-slice-aggregate-line-2 c = search needs
+number-requires : tie.Need-number-requires Inv-loop μ-loop
+number-requires c κs = search needs
 
-line-requires : tie.Need-line-requires Inv-loop μ-loop
-line-requires c κs = search needs
+end-requires : tie.Need-end-requires Inv-loop μ-loop
+end-requires c κs = search needs
 
 add-i : tie.Need-add-i Inv-loop μ-loop
 add-i c = search needs
@@ -49,11 +51,12 @@ bytes-spec =
     Inv-loop
     μ-loop
     loop-holds
-    slice-aggregate-line
+    slice-aggregate-text
+    text-requires
     shared-slice-read-wide
     wide-requires
-    slice-aggregate-line-2
-    line-requires
+    number-requires
+    end-requires
     add-i
     loop-less
     loop-again

@@ -1,16 +1,14 @@
 -- `figures::lent::tables` meets its contract. Assumes nothing.
-use Prim.Native.Nat.{_+_, _-_, _≤_}
-use mathlib.Core.Path.{_≡_}
+use Prim.Native.Nat.{_-_, _≤_}
 use borrow.Author.Needs.{needs}
-use lib.ListN.{length}
 use Rattle.figures.proofs.lent.tables.Statement.{statement}
 use Rattle.figures.proofs.lent.tables.Tie as tie
 
 abbrev Inv-loop : tie.InvT-loop
-Inv-loop i₀ i = i ≤ 25
+Inv-loop i₀ t2 t3 t4 i = i ≤ 25
 
 abbrev μ-loop : tie.MeasureT-loop
-μ-loop i₀ i = 25 - i
+μ-loop i₀ t2 t3 t4 i = 25 - i
 
 loop-holds : tie.Need-loop-holds Inv-loop μ-loop
 loop-holds c = search needs
@@ -33,14 +31,23 @@ loop-less c = search needs
 loop-again : tie.Need-loop-again Inv-loop μ-loop
 loop-again c = search needs
 
-short-ends-requires : tie.Need-short-ends-requires Inv-loop μ-loop
-short-ends-requires c κs = search needs
+slice-aggregate-short : tie.Need-slice-aggregate-short Inv-loop μ-loop
+slice-aggregate-short c = search needs
 
-short-blocks-requires : tie.Need-short-blocks-requires Inv-loop μ-loop
-short-blocks-requires c κs = search needs
+short-requires : tie.Need-short-requires Inv-loop μ-loop
+short-requires c κs = search needs
 
-short-adjustments-requires : tie.Need-short-adjustments-requires Inv-loop μ-loop
-short-adjustments-requires c κs = search needs
+slice-aggregate-short-2 : tie.Need-slice-aggregate-short-2 Inv-loop μ-loop
+slice-aggregate-short-2 c = search needs
+
+short-requires-2 : tie.Need-short-requires-2 Inv-loop μ-loop
+short-requires-2 c κs = search needs
+
+slice-aggregate-short-3 : tie.Need-slice-aggregate-short-3 Inv-loop μ-loop
+slice-aggregate-short-3 c = search needs
+
+short-requires-3 : tie.Need-short-requires-3 Inv-loop μ-loop
+short-requires-3 c κs = search needs
 
 returns : tie.Need-returns Inv-loop μ-loop
 returns c = search needs
@@ -58,7 +65,10 @@ tables-spec =
     add-i
     loop-less
     loop-again
-    short-ends-requires
-    short-blocks-requires
-    short-adjustments-requires
+    slice-aggregate-short
+    short-requires
+    slice-aggregate-short-2
+    short-requires-2
+    slice-aggregate-short-3
+    short-requires-3
     returns)

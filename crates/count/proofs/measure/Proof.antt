@@ -1,0 +1,75 @@
+-- `count::measure` meets its contract: one return for each case. Assumes nothing.
+use mathlib.Core.Path.{sym, _∙_}
+use native.Mathlib.Omega.{arith}
+use borrow.Author.Needs.{needs}
+use Rattle.model.specs.Table.{Shape, Table}
+use Rattle.model.specs.Console.{sizes}
+use Rattle.model.proofs.Filled.{lengthTo}
+use Rattle.model.proofs.Steps.{drained-count, drained-moves, filled-count, filled-moves}
+use Rattle.model.specs.Lent.{lent}
+use Rattle.count.proofs.measure.Statement.{statement}
+use Rattle.count.proofs.measure.Tie as tie
+
+-- the table lent, and the sizes asked for
+abbrev t : tie.Start → Table
+t s = lent (s .args .h) (s .args .tops .now) (s .args .ends .now) (s .args .blocks .now) (s .args .adjustments .now)
+
+abbrev z : tie.Start → Shape
+z s = sizes (s .args .buckets) (s .args .bins)
+
+dues-before-requires : tie.Need-dues-before-requires
+dues-before-requires c κs = search needs
+
+dues-after-requires : tie.Need-dues-after-requires
+dues-after-requires c κs = search needs
+
+some-fall-requires : tie.Need-some-fall-requires
+some-fall-requires c κs = search needs
+
+count-drained-requires : tie.Need-count-drained-requires
+count-drained-requires c κs = search needs
+
+returns : tie.Need-returns
+returns c =
+    let start = c .before .before .before .before .before .before .before .before .before .before .before .before in
+    let falls = sym (c .before .before .before .some-fall .ensures) ∙ c .before .before .if1 .taken in
+    let (sound, asked) = start .pre in (
+      c .count-drained .ensures .0 ∙ sym (drained-count _ _ _ sound asked falls),
+      c .count-drained .ensures .1 ∙ drained-moves _ _ _ sound asked falls,
+    )
+
+count-pieces-requires : tie.Need-count-pieces-requires
+count-pieces-requires c κs =
+    let start = c .before .before .before .before .before .before .before .before .before .before .before .before in
+    record {
+      sound = start .pre .0;
+      asked = start .pre .1;
+      before = c .before .before .before .before .before .before .before .dues-before .ensures;
+      after = c .before .before .before .before .before .before .dues-after .ensures;
+      none = sym (c .before .before .before .some-fall .ensures) ∙ c .before .before .if1 .left;
+    }
+
+add-t18 : tie.Need-add-t18
+add-t18 c = omega (arith, c .before .count-pieces .ensures .0, c .before .before .before .before .before .before .before .before .before .before .before .before .before .before .pre .0 .intervalLimit)
+
+returns-2 : tie.Need-returns-2
+returns-2 c =
+    let start = c .before .before .before .before .before .before .before .before .before .before .before .before .before .before in
+    let none = sym (c .before .before .before .before .before .some-fall .ensures) ∙ c .before .before .before .before .if1 .left in
+    let (sound, asked) = start .pre in (
+      omega (arith, c .before .count-pieces .ensures .1 (lengthTo (t start) (z start)), filled-count _ _ _ sound asked none),
+      filled-moves _ _ _ sound asked none,
+    )
+
+pub measure-spec : {M : Type 1} → statement M
+measure-spec =
+    tie.close
+    (tie.spec
+    dues-before-requires
+    dues-after-requires
+    some-fall-requires
+    count-drained-requires
+    returns
+    count-pieces-requires
+    add-t18
+    returns-2)

@@ -1,0 +1,47 @@
+// Arithmetic and indexing that are defined everywhere: where a result would not fit, or there is no such entry, they answer
+// NONE, which no right number equals, and a comparison fails.
+pub const NONE: u32 = 4_294_967_295;
+
+pub fn plus(a: u32, b: u32) -> u32 {
+    if a <= 2_000_000_000 {
+        if b <= 2_000_000_000 {
+            return a + b;
+        }
+    }
+    NONE
+}
+
+pub fn minus(a: u32, b: u32) -> u32 {
+    if b <= a {
+        return a - b;
+    }
+    NONE
+}
+
+pub fn quotient(a: u32, b: u32) -> u32 {
+    if b == 0 {
+        return NONE;
+    }
+    a / b
+}
+
+pub fn remainder(a: u32, b: u32) -> u32 {
+    if b == 0 {
+        return NONE;
+    }
+    a % b
+}
+
+pub fn least(a: u32, b: u32) -> u32 {
+    if a < b {
+        return a;
+    }
+    b
+}
+
+pub fn entry(numbers: &[u32], i: u32) -> u32 {
+    if (i as usize) < numbers.len() {
+        return numbers[i as usize];
+    }
+    NONE
+}

@@ -1,0 +1,19 @@
+-- What the writers of a growth's table promise of the arrays lent to them. Assumes nothing.
+use Prim.Native.Nat.{ℕ, _≤_}
+use mathlib.Core.Path.{_≡_}
+use mathlib.Core.List.{List, map}
+use lib.ListN.{length}
+use lib.Seq.{sets}
+use Rattle.model.specs.Table.{Interval}
+
+-- each of the three interval arrays has room for n entries
+pub record Room (n : ℕ) (es bs cs : List ℕ) : Type 0 where
+  pub ends : n ≤ length es
+  pub blocks : n ≤ length bs
+  pub adjustments : n ≤ length cs
+
+-- the intervals are stored from place o on, and all other entries are kept
+pub record Stored (o : ℕ) (is : List Interval) (es bs cs es′ bs′ cs′ : List ℕ) : Type 0 where
+  pub ends : es′ ≡ sets es o (map (λ i. i .end) is)
+  pub blocks : bs′ ≡ sets bs o (map (λ i. i .block) is)
+  pub adjustments : cs′ ≡ sets cs o (map (λ i. i .adjustment) is)

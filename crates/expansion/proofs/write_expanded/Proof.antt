@@ -1,0 +1,71 @@
+-- `expansion::write_expanded` meets its contract: the tops and the intervals are written. Assumes nothing.
+use native.Mathlib.Omega.{arith}
+use lib.ListN.{length}
+use borrow.Author.Needs.{needs}
+use Rattle.model.specs.Table.{Shape, Table}
+use Rattle.model.specs.Expansion.{expanded}
+use Rattle.model.specs.Console.{sizes}
+use Rattle.model.proofs.Rooms.{roomy}
+use Rattle.model.specs.Lent.{lent}
+use Rattle.drain.specs.Stored.{Room}
+use Rattle.drain.proofs.Stores.{stored-written}
+use Rattle.expansion.proofs.write_expanded.Statement.{statement}
+use Rattle.expansion.proofs.write_expanded.Tie as tie
+
+-- the table lent, and the sizes asked for
+abbrev t : tie.Start → Table
+t s = lent (s .args .h) (s .args .tops .now) (s .args .ends .now) (s .args .blocks .now) (s .args .adjustments .now)
+
+abbrev z : tie.Start → Shape
+z s = sizes (s .args .buckets) (s .args .bins)
+
+-- the room for the new intervals
+room
+    : (s : tie.Start)
+    → Room (length (expanded (t s) (z s) .intervals)) (s .args .new-ends .now) (s .args .new-blocks .now) (s .args .new-adjustments .now)
+room s =
+    let r = roomy _ (s .pre .1 .1 .0) in
+    let few = s .pre .1 .1 .1 in
+    record {
+      ends = omega (arith, r .ends);
+      blocks = omega (arith, r .blocks);
+      adjustments = omega (arith, r .adjustments);
+    }
+
+write-tops-requires : tie.Need-write-tops-requires
+write-tops-requires c κs =
+    let start = c .before .before .before .before .before .before .before .before .before in
+    (start .pre .0, (start .pre .1 .0, roomy _ (start .pre .1 .1 .0) .tops))
+
+write-intervals-requires : tie.Need-write-intervals-requires
+write-intervals-requires c κs = let start = c .before .before .before .before .before .before .before .before .before .before .before .before .before .before .before in (start .pre .0, (start .pre .1 .0, room start))
+
+same-length : tie.Need-same-length
+same-length c = search needs
+
+same-length-2 : tie.Need-same-length-2
+same-length-2 c = search needs
+
+same-length-3 : tie.Need-same-length-3
+same-length-3 c = search needs
+
+same-length-4 : tie.Need-same-length-4
+same-length-4 c = search needs
+
+returns : tie.Need-returns
+unfolding expanded
+returns c =
+    let start = c .before .before .before .before .before .before .before .before .before .before .before .before .before .before .before .before .before .before .before .before .before .before in
+    stored-written (expanded (t start) (z start)) (start .args .new-tops .now) _ (c .before .before .before .before .before .before .before .before .before .before .before .before .write-tops .ensures) (c .before .before .before .before .before .before .write-intervals .ensures) (room start)
+
+pub write-expanded-spec : {M : Type 1} → statement M
+write-expanded-spec =
+    tie.close
+    (tie.spec
+    write-tops-requires
+    write-intervals-requires
+    same-length
+    same-length-2
+    same-length-3
+    same-length-4
+    returns)

@@ -1,0 +1,79 @@
+-- `growth::grown` meets its contract: rules 1 to 5, then 8, then the new table. Assumes nothing.
+use mathlib.Core.Path.{sym, _∙_}
+use native.Mathlib.Omega.{arith}
+use Rattle.growth.proofs.Grows.{grow-same, grow-refused, grow-full, grow-accepted}
+use borrow.Author.Needs.{needs}
+use Rattle.growth.proofs.grown.Statement.{statement}
+use Rattle.growth.proofs.grown.Tie as tie
+
+growth-refusal-requires : tie.Need-growth-refusal-requires
+growth-refusal-requires c κs = search needs
+
+refused-table-requires : tie.Need-refused-table-requires
+refused-table-requires c κs = search needs
+
+returns : tie.Need-returns
+returns c =
+    grow-same _ _ _ _ _ _ (c .refused-table .ensures)
+    (grow-refused _ _ _ _ (c .before .before .growth-refusal .ensures) (c .before .if1 .taken))
+
+measure-requires : tie.Need-measure-requires
+measure-requires c κs = search needs
+
+refused-table-requires-2 : tie.Need-refused-table-requires-2
+refused-table-requires-2 c κs = search needs
+
+returns-2 : tie.Need-returns-2
+returns-2 c =
+    grow-same _ _ _ _ _ _ (c .refused-table2 .ensures)
+    (grow-full _ _ _ _ (c .before .before .before .before .before .growth-refusal .ensures) (c .before .before .before .before .if1 .left) (omega (arith, c .before .before .before .measure .ensures .0)))
+
+blocks-after-requires : tie.Need-blocks-after-requires
+blocks-after-requires c κs = search needs
+
+write-expanded-requires : tie.Need-write-expanded-requires
+write-expanded-requires c κs = (
+  search needs,
+  (
+    sym (c .before .before .before .before .before .before .before .before .before .growth-refusal .ensures) ∙ c .before .before .before .before .before .before .before .before .if1 .left,
+    (search needs, omega (arith, c .before .before .before .before .before .before .before .measure .ensures .0)),
+  ),
+)
+
+same-length : tie.Need-same-length
+same-length c = search needs
+
+same-length-2 : tie.Need-same-length-2
+same-length-2 c = search needs
+
+same-length-3 : tie.Need-same-length-3
+same-length-3 c = search needs
+
+same-length-4 : tie.Need-same-length-4
+same-length-4 c = search needs
+
+returns-3 : tie.Need-returns-3
+returns-3 c =
+    grow-accepted _ _ _ _ (c .before .before .before .before .before .before .before .before .before .before .before .before .before .before .before .before .before .before .growth-refusal .ensures) _ _ _ _ (c .before .before .before .before .before .before .before .before .before .before .before .before .before .before .before .before .before .if1 .left) (c .before .before .before .before .before .before .before .before .before .before .before .before .before .before .if2 .left)
+    (c .before .before .before .before .before .before .before .before .before .before .before .before .before .blocks-after .ensures)
+    (c .before .before .before .before .before .before .before .before .before .before .before .before .before .before .before .before .measure .ensures .0)
+    (c .before .before .before .before .before .before .before .before .before .before .before .before .before .before .before .before .measure .ensures .1)
+    (c .before .before .before .before .before .before .before .before .write-expanded .ensures)
+
+pub grown-spec : {M : Type 1} → statement M
+grown-spec =
+    tie.close
+    (tie.spec
+    growth-refusal-requires
+    refused-table-requires
+    returns
+    measure-requires
+    refused-table-requires-2
+    returns-2
+    blocks-after-requires
+    write-expanded-requires
+    same-length
+    same-length-2
+    same-length-3
+    same-length-4
+    returns-3)

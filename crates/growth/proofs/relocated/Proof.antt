@@ -1,0 +1,43 @@
+-- `growth::relocated` meets its contract: rules 1 to 5, then 9, then the rows. Assumes nothing.
+use native.Mathlib.Omega.{arith}
+use Rattle.growth.proofs.Moves.{moves-refused, moves-past, moves-accepted}
+use borrow.Author.Needs.{needs}
+use Rattle.growth.proofs.relocated.Statement.{statement}
+use Rattle.growth.proofs.relocated.Tie as tie
+
+growth-refusal-requires : tie.Need-growth-refusal-requires
+growth-refusal-requires c κs = search needs
+
+returns : tie.Need-returns
+returns c = moves-refused _ _ _ _ _ (c .before .growth-refusal .ensures) (c .if1 .taken)
+
+relocation-count-requires : tie.Need-relocation-count-requires
+relocation-count-requires c κs = search needs
+
+returns-2 : tie.Need-returns-2
+returns-2 c = moves-past _ _ _ _ _ (c .before .before .before .growth-refusal .ensures) (c .before .before .if1 .left) (omega arith)
+
+write-relocations-requires : tie.Need-write-relocations-requires
+write-relocations-requires c κs = search needs
+
+same-length : tie.Need-same-length
+same-length c = search needs
+
+returns-3 : tie.Need-returns-3
+returns-3 c =
+    moves-accepted _ _ _ _ _ (c .before .before .before .before .before .before .before .growth-refusal .ensures) _ _ _ (c .before .before .before .before .before .before .if1 .left) (omega arith)
+    (c .before .before .write-relocations .ensures .0)
+    (c .before .before .before .before .before .relocation-count .ensures)
+    (c .before .before .write-relocations .ensures .1)
+
+pub relocated-spec : {M : Type 1} → statement M
+relocated-spec =
+    tie.close
+    (tie.spec
+    growth-refusal-requires
+    returns
+    relocation-count-requires
+    returns-2
+    write-relocations-requires
+    same-length
+    returns-3)

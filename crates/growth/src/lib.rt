@@ -1,0 +1,131 @@
+// A growth and its move list, of a table that is known to be sound.
+ghost use mathlib.Core.Bool.{false};
+ghost use mathlib.Core.Path.{_≡_};
+ghost use Rattle.model.specs.Table.{arrays};
+ghost use Rattle.model.specs.Refusal.{roomShort};
+ghost use Rattle.model.specs.Lent.{lent, LentSound};
+ghost use Rattle.model.specs.Console.{sizes as sizesOf};
+ghost use Rattle.growth.specs.Replies.{GrowReply, MovesReply};
+use model::reply::RelocationsReply;
+use model::reply::TableReply;
+use model::table::Header;
+use sizes::refused_table;
+
+// A growth into arrays with room for any table.
+pub fn grown(
+    header: Header,
+    tops: &[u32],
+    ends: &[u32],
+    blocks: &[u32],
+    adjustments: &[u32],
+    buckets: u32,
+    bins: u32,
+    new_tops: &mut [u32],
+    new_ends: &mut [u32],
+    new_blocks: &mut [u32],
+    new_adjustments: &mut [u32],
+) -> TableReply
+    requires { ⌜ LentSound header (now tops) (now ends) (now blocks) (now adjustments) ⌝ }
+    requires { ⌜ roomShort (arrays (now «new_tops») (now «new_ends») (now «new_blocks») (now «new_adjustments»)) ≡ false ⌝ }
+    ensures { λ r.
+        ⌜
+        GrowReply (lent header (now (tops .entry)) (now (ends .entry)) (now (blocks .entry)) (now (adjustments .entry)))
+        (sizesOf buckets bins)
+        (arrays (now («new_tops» .entry)) (now («new_ends» .entry)) (now («new_blocks» .entry)) (now («new_adjustments» .entry)))
+        (arrays (now («new_tops» .exit)) (now («new_ends» .exit)) (now («new_blocks» .exit)) (now («new_adjustments» .exit)))
+        r
+        ⌝ }
+{
+    let wrong = plan::growth_refusal(header, tops, ends, blocks, adjustments, buckets, bins);
+    if wrong != 0 {
+        return refused_table(wrong);
+    }
+    let growth = count::measure(header, tops, ends, blocks, adjustments, buckets, bins);
+    if 2_081 < growth.intervals {
+        return refused_table(8);
+    }
+    let block_count = plan::blocks_after(header, tops, ends, blocks, adjustments, buckets, bins);
+    expansion::write_expanded(
+        header,
+        tops,
+        ends,
+        blocks,
+        adjustments,
+        buckets,
+        bins,
+        new_tops,
+        new_ends,
+        new_blocks,
+        new_adjustments,
+    );
+    TableReply {
+        refusal: 0,
+        moved: growth.moved,
+        header: Header {
+            buckets,
+            block_count,
+            interval_count: growth.intervals,
+        },
+    }
+}
+
+// A page of the move list.
+pub fn relocated(
+    header: Header,
+    tops: &[u32],
+    ends: &[u32],
+    blocks: &[u32],
+    adjustments: &[u32],
+    buckets: u32,
+    bins: u32,
+    first: u32,
+    rows: &mut [u32],
+) -> RelocationsReply
+    requires { ⌜ LentSound header (now tops) (now ends) (now blocks) (now adjustments) ⌝ }
+    ensures { λ r.
+        ⌜
+        MovesReply (lent header (now (tops .entry)) (now (ends .entry)) (now (blocks .entry)) (now (adjustments .entry)))
+        (sizesOf buckets bins) first (now (rows .entry)) (now (rows .exit)) r
+        ⌝ }
+{
+    let wrong = plan::growth_refusal(header, tops, ends, blocks, adjustments, buckets, bins);
+    if wrong != 0 {
+        return RelocationsReply {
+            refusal: wrong,
+            written: 0,
+            total: 0,
+        };
+    }
+    let total = relocations::relocation_count(
+        header,
+        tops,
+        ends,
+        blocks,
+        adjustments,
+        buckets,
+        bins,
+    );
+    if total < first {
+        return RelocationsReply {
+            refusal: 9,
+            written: 0,
+            total: 0,
+        };
+    }
+    let written = relocations::write_relocations(
+        header,
+        tops,
+        ends,
+        blocks,
+        adjustments,
+        buckets,
+        bins,
+        first,
+        rows,
+    );
+    RelocationsReply {
+        refusal: 0,
+        written,
+        total,
+    }
+}

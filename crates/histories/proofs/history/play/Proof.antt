@@ -1,0 +1,50 @@
+-- `histories::history::play` meets its contract. Assumes nothing.
+use Prim.Native.Nat.{_-_, _≤_}
+use borrow.Author.Needs.{needs}
+use Rattle.histories.proofs.history.play.Statement.{statement}
+use Rattle.histories.proofs.history.play.Tie as tie
+
+abbrev Inv-loop : tie.InvT-loop
+Inv-loop most-buckets most-bins growths tops₀ rest₀ d₀ s₀ i₀ tops rest d s i = i ≤ growths
+
+abbrev μ-loop : tie.MeasureT-loop
+μ-loop most-buckets most-bins growths tops₀ rest₀ d₀ s₀ i₀ tops rest d s i = growths - i
+
+begun-requires : tie.Need-begun-requires Inv-loop μ-loop
+begun-requires c κs = search needs
+
+loop-holds : tie.Need-loop-holds Inv-loop μ-loop
+loop-holds c = search needs
+
+asked-requires : tie.Need-asked-requires Inv-loop μ-loop
+asked-requires c κs = search needs
+
+add-i : tie.Need-add-i Inv-loop μ-loop
+add-i c = search needs
+
+step-requires : tie.Need-step-requires Inv-loop μ-loop
+step-requires c κs = search needs
+
+loop-less : tie.Need-loop-less Inv-loop μ-loop
+loop-less c = search needs
+
+loop-again : tie.Need-loop-again Inv-loop μ-loop
+loop-again c = search needs
+
+returns : tie.Need-returns Inv-loop μ-loop
+returns c = search needs
+
+pub play-spec : {M : Type 1} → statement M
+play-spec =
+    tie.close
+    (tie.spec
+    Inv-loop
+    μ-loop
+    begun-requires
+    loop-holds
+    asked-requires
+    add-i
+    step-requires
+    loop-less
+    loop-again
+    returns)

@@ -1,0 +1,253 @@
+// What reads a sound table. Nothing here checks it again.
+ghost use Prim.Native.Nat.{_<_, _≤_};
+ghost use mathlib.Core.Path.{_≡_};
+ghost use lib.ListN.{length, take};
+ghost use Rattle.model.specs.Table.{bins as binsOf};
+ghost use Rattle.model.specs.Place.{located, locatedRefusal, blockOfBin, binSize, holder, holderRefusal, heldAt};
+ghost use Rattle.model.specs.Refusal.{first};
+ghost use Rattle.model.specs.Calls.{placeAnswer, findAnswer, findTests, binSizeAnswer, binSizeTests};
+ghost use Rattle.model.specs.Lent.{lent, LentSound};
+use model::reply::BinSizeReply;
+use model::reply::FindReply;
+use model::reply::PlaceReply;
+use model::search::Holder;
+use model::search::Located;
+use model::table::Header;
+use table::before;
+use table::bin_count;
+
+// The interval of a bucket, by binary search, and the bucket's rank.
+pub fn locate(
+    h: Header,
+    tops: &[u32],
+    ends: &[u32],
+    blocks: &[u32],
+    adjustments: &[u32],
+    bucket: u32,
+) -> Located
+    requires { ⌜ LentSound h (now tops) (now ends) (now blocks) (now adjustments) ⌝ }
+    ensures { λ r. ⌜ r ≡ located (lent h (now (tops .entry)) (now (ends .entry)) (now (blocks .entry)) (now (adjustments .entry))) bucket ⌝ }
+{
+    if h.buckets <= bucket {
+        return Located::Outside;
+    }
+    let mut low = 0;
+    let mut high = h.interval_count as usize - 1;
+    while low < high {
+        let middle = low + (high - low) / 2;
+        if bucket < ends[middle] {
+            high = middle;
+        } else {
+            low = middle + 1;
+        }
+    }
+    Located::At {
+        interval: low,
+        rank: bucket - adjustments[low],
+    }
+}
+
+// The bin and position of a bucket, or refusal 6.
+pub fn placed(
+    h: Header,
+    tops: &[u32],
+    ends: &[u32],
+    blocks: &[u32],
+    adjustments: &[u32],
+    bucket: u32,
+) -> PlaceReply
+    requires { ⌜ LentSound h (now tops) (now ends) (now blocks) (now adjustments) ⌝ }
+    ensures { λ r.
+        ⌜
+        r
+        ≡ placeAnswer
+        (locatedRefusal (located (lent h (now (tops .entry)) (now (ends .entry)) (now (blocks .entry)) (now (adjustments .entry))) bucket))
+        (lent h (now (tops .entry)) (now (ends .entry)) (now (blocks .entry)) (now (adjustments .entry)))
+        bucket
+        ⌝ }
+{
+    let Located::At { interval, rank } = locate(h, tops, ends, blocks, adjustments, bucket) else {
+        return PlaceReply {
+            refusal: 6,
+            bin: 0,
+            position: 0,
+        };
+    };
+    let block = blocks[interval] as usize;
+    let first = before(tops, block);
+    let bins = tops[block] - first;
+    PlaceReply {
+        refusal: 0,
+        bin: first + rank % bins,
+        position: rank / bins,
+    }
+}
+
+// The number of buckets in a bin, or refusal 7. A bin of a sound table has its due size.
+pub fn sized(
+    h: Header,
+    tops: &[u32],
+    ends: &[u32],
+    blocks: &[u32],
+    adjustments: &[u32],
+    bin: u32,
+) -> BinSizeReply
+    requires { ⌜ LentSound h (now tops) (now ends) (now blocks) (now adjustments) ⌝ }
+    ensures { λ r.
+        ⌜
+        r
+        ≡ binSizeAnswer
+        (first (binSizeTests (lent h (now (tops .entry)) (now (ends .entry)) (now (blocks .entry)) (now (adjustments .entry))) bin))
+        (lent h (now (tops .entry)) (now (ends .entry)) (now (blocks .entry)) (now (adjustments .entry)))
+        bin
+        ⌝ }
+{
+    let bins = bin_count(h, tops, ends, blocks, adjustments);
+    if bins <= bin {
+        return BinSizeReply {
+            refusal: 7,
+            buckets: 0,
+        };
+    }
+    let share = h.buckets / bins;
+    if bin < h.buckets % bins {
+        return BinSizeReply {
+            refusal: 0,
+            buckets: share + 1,
+        };
+    }
+    BinSizeReply {
+        refusal: 0,
+        buckets: share,
+    }
+}
+
+// The block of a bin: the first of `count` tops past it.
+pub fn block_of_bin(tops: &[u32], count: usize, bin: u32) -> usize
+    requires { ⌜ count ≤ length (now tops) ⌝ }
+    ensures { λ r. ⌜ r ≡ blockOfBin (take count (now (tops .entry))) bin ⌝ }
+{
+    let mut block = 0;
+    while block < count {
+        if bin < tops[block] {
+            return block;
+        }
+        block += 1;
+    }
+    block
+}
+
+// The first interval of a block whose ranks include the given one.
+pub fn hold(
+    h: Header,
+    tops: &[u32],
+    ends: &[u32],
+    blocks: &[u32],
+    adjustments: &[u32],
+    block: u32,
+    rank: u32,
+) -> Holder
+    requires { ⌜ LentSound h (now tops) (now ends) (now blocks) (now adjustments) ⌝ }
+    requires { ⌜ rank < h .buckets ⌝ }
+    ensures { λ r.
+        ⌜
+        r
+        ≡ holder (lent h (now (tops .entry)) (now (ends .entry)) (now (blocks .entry)) (now (adjustments .entry)) .intervals)
+        0 0 block rank
+        ⌝ }
+{
+    let count = h.interval_count as usize;
+    let mut i = 0;
+    let mut start = 0;
+    let found = loop {
+        if count <= i {
+            break Holder::Nothing;
+        }
+        let bucket = rank + adjustments[i];
+        let end = ends[i];
+        if blocks[i] == block {
+            if start <= bucket {
+                if bucket < end {
+                    break Holder::In(i);
+                }
+            }
+        }
+        start = end;
+        i += 1;
+    };
+    found
+}
+
+// The bucket at a position below the bin's size.
+fn bucket_at(
+    h: Header,
+    tops: &[u32],
+    ends: &[u32],
+    blocks: &[u32],
+    adjustments: &[u32],
+    bin: u32,
+    position: u32,
+) -> FindReply
+    requires { ⌜ LentSound h (now tops) (now ends) (now blocks) (now adjustments) ⌝ }
+    requires { ⌜ bin < binsOf (lent h (now tops) (now ends) (now blocks) (now adjustments)) ⌝ }
+    requires { ⌜ position < binSize (lent h (now tops) (now ends) (now blocks) (now adjustments)) bin ⌝ }
+    ensures { λ r.
+        ⌜
+        r
+        ≡ findAnswer
+        (holderRefusal
+        (heldAt (lent h (now (tops .entry)) (now (ends .entry)) (now (blocks .entry)) (now (adjustments .entry))) bin position))
+        (lent h (now (tops .entry)) (now (ends .entry)) (now (blocks .entry)) (now (adjustments .entry)))
+        bin position
+        ⌝ }
+{
+    let block = block_of_bin(tops, h.block_count as usize, bin);
+    let low = before(tops, block);
+    let rank = position * (tops[block] - low) + (bin - low);
+    let Holder::In(i) = hold(h, tops, ends, blocks, adjustments, block as u32, rank) else {
+        return FindReply {
+            refusal: 7,
+            bucket: 0,
+        };
+    };
+    FindReply {
+        refusal: 0,
+        bucket: rank + adjustments[i],
+    }
+}
+
+// The bucket at a position of a bin, or refusal 7.
+pub fn found(
+    h: Header,
+    tops: &[u32],
+    ends: &[u32],
+    blocks: &[u32],
+    adjustments: &[u32],
+    bin: u32,
+    position: u32,
+) -> FindReply
+    requires { ⌜ LentSound h (now tops) (now ends) (now blocks) (now adjustments) ⌝ }
+    ensures { λ r.
+        ⌜
+        r
+        ≡ findAnswer
+        (first (findTests (lent h (now (tops .entry)) (now (ends .entry)) (now (blocks .entry)) (now (adjustments .entry))) bin position))
+        (lent h (now (tops .entry)) (now (ends .entry)) (now (blocks .entry)) (now (adjustments .entry)))
+        bin position
+        ⌝ }
+{
+    let size = sized(h, tops, ends, blocks, adjustments, bin);
+    if size.refusal != 0 {
+        return FindReply {
+            refusal: 7,
+            bucket: 0,
+        };
+    }
+    if size.buckets <= position {
+        return FindReply {
+            refusal: 7,
+            bucket: 0,
+        };
+    }
+    bucket_at(h, tops, ends, blocks, adjustments, bin, position)
+}

@@ -1,0 +1,201 @@
+-- `soundness::check` meets its contract: each return from the tests on the way to it, and each rule's function is called with
+-- what the rules before it have shown. Assumes nothing.
+use mathlib.Core.Path.{_≡_, sym, _∙_}
+use mathlib.Core.Bool.{false}
+use borrow.Author.Needs.{needs}
+use Rattle.model.specs.Basics.{_or_}
+use Rattle.model.specs.Table.{Arrays, arrays}
+use Rattle.model.specs.Refusal.{
+  headerOutside,
+  arraysShort,
+  topsWrong,
+  endsWrong,
+  blocksWrong,
+  holdingsWrong,
+  adjustmentsWrong,
+}
+use Rattle.model.specs.Calls.{tableTests}
+use Rattle.model.specs.declared.table.Header.{Header}
+use Rattle.model.proofs.Refusals.{or-both, first-none, first-here, first-skip}
+use Rattle.model.proofs.Rules.{or-first, or-last, blocks-inside, intervals-inside, tops-long, ends-long, blocks-long, adjustments-long}
+use Rattle.model.proofs.Holdings.{holdings-same, adjustments-same}
+use Rattle.soundness.specs.Passed.{TopsRight, IntervalsRight}
+use Rattle.soundness.proofs.Passed.{tops-right, intervals-right}
+use Rattle.soundness.proofs.check.Statement.{statement}
+use Rattle.soundness.proofs.check.Tie as tie
+
+-- the table as it is lent
+abbrev h : tie.Start → Header
+h s = s .args .h
+
+abbrev a : tie.Start → Arrays
+a s = arrays (s .args .tops .now) (s .args .ends .now) (s .args .blocks .now) (s .args .adjustments .now)
+
+-- the function's entry, from each rule passed
+abbrev at1 : tie.Else1 → tie.Start
+at1 c = c .before .before .before .before .before .before
+
+abbrev at2 : tie.Else2 → tie.Start
+at2 c = at1 (c .before .before)
+
+abbrev at3 : tie.Else3 → tie.Start
+at3 c = at2 (c .before .before)
+
+abbrev at4 : tie.Else4 → tie.Start
+at4 c = at3 (c .before .before)
+
+abbrev at5 : tie.Else5 → tie.Start
+at5 c = at4 (c .before .before)
+
+abbrev at6 : tie.Else6 → tie.Start
+at6 c = at5 (c .before .before)
+
+abbrev at7 : tie.Else7 → tie.Start
+at7 c = at6 (c .before .before)
+
+-- the rules passed on the way
+header-pass : (c : tie.Else1) → headerOutside (h (at1 c)) ≡ false
+header-pass c = sym (c .before .header-outside .ensures) ∙ c .if1 .left
+
+short-pass : (c : tie.Else2) → arraysShort (h (at2 c)) (a (at2 c)) ≡ false
+short-pass c = sym (c .before .arrays-short .ensures) ∙ c .if2 .left
+
+sizes-pass : (c : tie.Else2) → headerOutside (h (at2 c)) or arraysShort (h (at2 c)) (a (at2 c)) ≡ false
+sizes-pass c = or-both _ _ (header-pass (c .before .before)) (short-pass c)
+
+tops-pass : (c : tie.Else3) → topsWrong (h (at3 c)) (a (at3 c) .tops) ≡ false
+tops-pass c = sym (c .before .tops-wrong .ensures) ∙ c .if3 .left
+
+ends-pass : (c : tie.Else4) → endsWrong (h (at4 c)) (a (at4 c) .ends) ≡ false
+ends-pass c = sym (c .before .ends-wrong .ensures) ∙ c .if4 .left
+
+blocks-pass : (c : tie.Else5) → blocksWrong (h (at5 c)) (a (at5 c) .blocks) ≡ false
+blocks-pass c = sym (c .before .blocks-wrong .ensures) ∙ c .if5 .left
+
+holdings-pass : (c : tie.Else6) → holdingsWrong (h (at6 c)) (a (at6 c)) ≡ false
+holdings-pass c = holdings-same _ _ _ _ _ _ ∙ sym (c .before .holdings-wrong .ensures) ∙ c .if6 .left
+
+adjustments-pass : (c : tie.Else7) → adjustmentsWrong (h (at7 c)) (a (at7 c)) ≡ false
+adjustments-pass c = adjustments-same _ _ _ _ _ _ ∙ sym (c .before .adjustments-wrong .ensures) ∙ c .if7 .left
+
+tops-done : (c : tie.Else3) → TopsRight (h (at3 c)) (a (at3 c) .tops)
+tops-done c = tops-right _ _ (header-pass (c .before .before .before .before)) (short-pass (c .before .before)) (tops-pass c)
+
+intervals-done : (c : tie.Else5) → IntervalsRight (h (at5 c)) (a (at5 c) .ends) (a (at5 c) .blocks)
+intervals-done c =
+    intervals-right _ _
+    (header-pass (c .before .before .before .before .before .before .before .before))
+    (short-pass (c .before .before .before .before .before .before))
+    (ends-pass (c .before .before))
+    (blocks-pass c)
+
+header-outside-requires : tie.Need-header-outside-requires
+header-outside-requires c κs = search needs
+
+returns : tie.Need-returns
+unfolding tableTests
+returns c = sym (first-here _ _ (or-first _ _ (sym (c .before .header-outside .ensures) ∙ c .if1 .taken)))
+
+arrays-short-requires : tie.Need-arrays-short-requires
+arrays-short-requires c κs = search needs
+
+returns-2 : tie.Need-returns-2
+unfolding tableTests
+returns-2 c =
+    sym
+    (first-here _ _
+    (or-last _ _ (header-pass (c .before .before)) ∙ sym (c .before .arrays-short .ensures) ∙ c .if2 .taken))
+
+tops-wrong-requires : tie.Need-tops-wrong-requires
+tops-wrong-requires c κs = (blocks-inside _ (header-pass (c .before .before)) .0, tops-long _ _ (short-pass c))
+
+returns-3 : tie.Need-returns-3
+unfolding tableTests
+returns-3 c =
+    sym
+    (first-skip _ _ (sizes-pass (c .before .before))
+    ∙ first-here _ _ (sym (c .before .tops-wrong .ensures) ∙ c .if3 .taken))
+
+ends-wrong-requires : tie.Need-ends-wrong-requires
+ends-wrong-requires c κs =
+    (intervals-inside _ (header-pass (c .before .before .before .before)) .0, ends-long _ _ (short-pass (c .before .before)))
+
+returns-4 : tie.Need-returns-4
+unfolding tableTests
+returns-4 c =
+    sym
+    (first-skip _ _ (sizes-pass (c .before .before .before .before))
+    ∙ first-skip _ _ (tops-pass (c .before .before))
+    ∙ first-here _ _ (sym (c .before .ends-wrong .ensures) ∙ c .if4 .taken))
+
+blocks-wrong-requires : tie.Need-blocks-wrong-requires
+blocks-wrong-requires c κs = blocks-long _ _ (short-pass (c .before .before .before .before))
+
+returns-5 : tie.Need-returns-5
+unfolding tableTests
+returns-5 c =
+    sym
+    (first-skip _ _ (sizes-pass (c .before .before .before .before .before .before))
+    ∙ first-skip _ _ (tops-pass (c .before .before .before .before))
+    ∙ first-skip _ _ (ends-pass (c .before .before))
+    ∙ first-here _ _ (sym (c .before .blocks-wrong .ensures) ∙ c .if5 .taken))
+
+holdings-wrong-requires : tie.Need-holdings-wrong-requires
+holdings-wrong-requires c κs = (tops-done (c .before .before .before .before), intervals-done c)
+
+returns-6 : tie.Need-returns-6
+unfolding tableTests
+returns-6 c =
+    sym
+    (first-skip _ _ (sizes-pass (c .before .before .before .before .before .before .before .before))
+    ∙ first-skip _ _ (tops-pass (c .before .before .before .before .before .before))
+    ∙ first-skip _ _ (ends-pass (c .before .before .before .before))
+    ∙ first-skip _ _ (blocks-pass (c .before .before))
+    ∙ first-here _ _ (holdings-same _ _ _ _ _ _ ∙ sym (c .before .holdings-wrong .ensures) ∙ c .if6 .taken))
+
+adjustments-wrong-requires : tie.Need-adjustments-wrong-requires
+adjustments-wrong-requires c κs =
+    (intervals-done (c .before .before), adjustments-long _ _ (short-pass (c .before .before .before .before .before .before .before .before)))
+
+returns-7 : tie.Need-returns-7
+unfolding tableTests
+returns-7 c =
+    sym
+    (first-skip _ _ (sizes-pass (c .before .before .before .before .before .before .before .before .before .before))
+    ∙ first-skip _ _ (tops-pass (c .before .before .before .before .before .before .before .before))
+    ∙ first-skip _ _ (ends-pass (c .before .before .before .before .before .before))
+    ∙ first-skip _ _ (blocks-pass (c .before .before .before .before))
+    ∙ first-skip _ _ (holdings-pass (c .before .before))
+    ∙ first-here _ _ (adjustments-same _ _ _ _ _ _ ∙ sym (c .before .adjustments-wrong .ensures) ∙ c .if7 .taken))
+
+returns-8 : tie.Need-returns-8
+unfolding tableTests
+returns-8 c =
+    sym
+    (first-skip _ _ (sizes-pass (c .before .before .before .before .before .before .before .before .before .before))
+    ∙ first-skip _ _ (tops-pass (c .before .before .before .before .before .before .before .before))
+    ∙ first-skip _ _ (ends-pass (c .before .before .before .before .before .before))
+    ∙ first-skip _ _ (blocks-pass (c .before .before .before .before))
+    ∙ first-skip _ _ (holdings-pass (c .before .before))
+    ∙ first-skip _ _ (adjustments-pass c)
+    ∙ first-none)
+
+pub check-spec : {M : Type 1} → statement M
+check-spec =
+    tie.close
+    (tie.spec
+    header-outside-requires
+    returns
+    arrays-short-requires
+    returns-2
+    tops-wrong-requires
+    returns-3
+    ends-wrong-requires
+    returns-4
+    blocks-wrong-requires
+    returns-5
+    holdings-wrong-requires
+    returns-6
+    adjustments-wrong-requires
+    returns-7
+    returns-8)

@@ -1,0 +1,219 @@
+// The check of a lent table: rules 11 to 16 of document 01. A rule's function says whether the table breaks it.
+use model::table::Header;
+use table::due_below;
+ghost use mathlib.Core.Path.{_≡_};
+ghost use mathlib.Core.List.{[]};
+ghost use Prim.Native.Nat.{ℕ, _+_, _≤_, _<_};
+ghost use lib.ListN.{length, getD};
+ghost use Rattle.model.specs.Table.{arrays, table};
+ghost use Rattle.model.specs.Place.{held};
+ghost use Rattle.model.specs.Refusal.{
+  outside,
+  rises,
+  headerOutside,
+  arraysShort,
+  topsWrong,
+  endsWrong,
+  blocksWrong,
+  holdingsWrong,
+  adjustmentsWrong,
+  first,
+};
+ghost use Rattle.model.specs.Calls.{tableTests};
+ghost use Rattle.soundness.specs.Passed.{TopsRight, IntervalsRight};
+
+// Whether x is 0 or above its limit.
+fn is_outside(limit: u32, x: u32) -> bool
+    ensures { λ r. ⌜ r ≡ outside limit x ⌝ }
+{
+    if x == 0 {
+        return true;
+    }
+    limit < x
+}
+
+// 11: B, G or k outside its limits.
+pub fn header_outside(h: Header) -> bool
+    ensures { λ r. ⌜ r ≡ headerOutside h ⌝ }
+{
+    if is_outside(1_000_000_000, h.buckets) {
+        return true;
+    }
+    if is_outside(65, h.block_count) {
+        return true;
+    }
+    is_outside(2_081, h.interval_count)
+}
+
+// 11: a lent array shorter than its count.
+pub fn arrays_short(
+    h: Header,
+    tops: &[u32],
+    ends: &[u32],
+    blocks: &[u32],
+    adjustments: &[u32],
+) -> bool
+    ensures { λ r. ⌜ r ≡ arraysShort h (arrays (now (tops .entry)) (now (ends .entry)) (now (blocks .entry)) (now (adjustments .entry))) ⌝ }
+{
+    let intervals = h.interval_count as usize;
+    if tops.len() < h.block_count as usize {
+        return true;
+    }
+    if ends.len() < intervals {
+        return true;
+    }
+    if blocks.len() < intervals {
+        return true;
+    }
+    adjustments.len() < intervals
+}
+
+// Whether the first n entries rise strictly, and the first of them is not 0.
+pub fn rising(xs: &[u32], n: usize) -> bool
+    requires { ⌜ n ≤ length (now xs) ⌝ }
+    ensures { λ r. ⌜ r ≡ rises (now (xs .entry)) n ⌝ }
+{
+    let mut last: u32 = 0;
+    let mut i: usize = 0;
+    while i < n {
+        let x = xs[i];
+        if x <= last {
+            return false;
+        }
+        last = x;
+        i += 1;
+    }
+    true
+}
+
+// 12: tops that don't rise strictly, a first top of 0, a last top above its limit or above B.
+pub fn tops_wrong(h: Header, tops: &[u32]) -> bool
+    requires { ⌜ (1 ≤ h .«block_count») × (h .«block_count» ≤ length (now tops)) ⌝ }
+    ensures { λ r. ⌜ r ≡ topsWrong h (now (tops .entry)) ⌝ }
+{
+    let count = h.block_count as usize;
+    if !rising(tops, count) {
+        return true;
+    }
+    let bins = tops[count - 1];
+    if 65_535 < bins {
+        return true;
+    }
+    h.buckets < bins
+}
+
+// 13: ends that don't rise strictly, a first end of 0, or a last end other than B.
+pub fn ends_wrong(h: Header, ends: &[u32]) -> bool
+    requires { ⌜ (1 ≤ h .«interval_count») × (h .«interval_count» ≤ length (now ends)) ⌝ }
+    ensures { λ r. ⌜ r ≡ endsWrong h (now (ends .entry)) ⌝ }
+{
+    let count = h.interval_count as usize;
+    if !rising(ends, count) {
+        return true;
+    }
+    ends[count - 1] != h.buckets
+}
+
+// 14: an interval's block not below G.
+pub fn blocks_wrong(h: Header, blocks: &[u32]) -> bool
+    requires { ⌜ h .«interval_count» ≤ length (now blocks) ⌝ }
+    ensures { λ r. ⌜ r ≡ blocksWrong h (now (blocks .entry)) ⌝ }
+{
+    let mut i: usize = 0;
+    while i < h.interval_count as usize {
+        if h.block_count <= blocks[i] {
+            return true;
+        }
+        i += 1;
+    }
+    false
+}
+
+// How many buckets each block holds.
+fn holdings(h: Header, ends: &[u32], blocks: &[u32]) -> [u32; 65]
+    requires { ⌜ IntervalsRight h (now ends) (now blocks) ⌝ }
+    ensures { λ r. ⌜ ((j : ℕ) → j < 65 → getD r j 0 ≡ held (table h (arrays [] (now (ends .entry)) (now (blocks .entry)) [])) j (h .buckets)) ⌝ }
+{
+    let mut sums = [0u32; 65];
+    let mut start: u32 = 0;
+    let mut i: usize = 0;
+    while i < h.interval_count as usize {
+        let end = ends[i];
+        let block = blocks[i] as usize;
+        sums[block] += end - start;
+        start = end;
+        i += 1;
+    }
+    sums
+}
+
+// 15: a block whose intervals hold another number than its due.
+pub fn holdings_wrong(h: Header, tops: &[u32], ends: &[u32], blocks: &[u32]) -> bool
+    requires { ⌜ (TopsRight h (now tops)) × (IntervalsRight h (now ends) (now blocks)) ⌝ }
+    ensures { λ r. ⌜ r ≡ holdingsWrong h (arrays (now (tops .entry)) (now (ends .entry)) (now (blocks .entry)) []) ⌝ }
+{
+    let sums = holdings(h, ends, blocks);
+    let bins = tops[h.block_count as usize - 1];
+    let quotient = h.buckets / bins;
+    let remainder = h.buckets % bins;
+    let mut below: u32 = 0;
+    let mut j: usize = 0;
+    while j < h.block_count as usize {
+        let through = due_below(quotient, remainder, tops[j]);
+        if sums[j] != through - below {
+            return true;
+        }
+        below = through;
+        j += 1;
+    }
+    false
+}
+
+// 16: a wrong adjustment. Right is the interval's start less what its block holds before it.
+pub fn adjustments_wrong(h: Header, ends: &[u32], blocks: &[u32], adjustments: &[u32]) -> bool
+    requires { ⌜ (IntervalsRight h (now ends) (now blocks)) × (h .«interval_count» ≤ length (now adjustments)) ⌝ }
+    ensures { λ r. ⌜ r ≡ adjustmentsWrong h (arrays [] (now (ends .entry)) (now (blocks .entry)) (now (adjustments .entry))) ⌝ }
+{
+    let mut sums = [0u32; 65];
+    let mut start: u32 = 0;
+    let mut i: usize = 0;
+    while i < h.interval_count as usize {
+        let end = ends[i];
+        let block = blocks[i] as usize;
+        if adjustments[i] != start - sums[block] {
+            return true;
+        }
+        sums[block] += end - start;
+        start = end;
+        i += 1;
+    }
+    false
+}
+
+// The number of the first of rules 11 to 16 that the table breaks, or 0.
+pub fn check(h: Header, tops: &[u32], ends: &[u32], blocks: &[u32], adjustments: &[u32]) -> u32
+    ensures { λ r. ⌜ r ≡ first (tableTests h (arrays (now (tops .entry)) (now (ends .entry)) (now (blocks .entry)) (now (adjustments .entry)))) ⌝ }
+{
+    if header_outside(h) {
+        return 11;
+    }
+    if arrays_short(h, tops, ends, blocks, adjustments) {
+        return 11;
+    }
+    if tops_wrong(h, tops) {
+        return 12;
+    }
+    if ends_wrong(h, ends) {
+        return 13;
+    }
+    if blocks_wrong(h, blocks) {
+        return 14;
+    }
+    if holdings_wrong(h, tops, ends, blocks) {
+        return 15;
+    }
+    if adjustments_wrong(h, ends, blocks, adjustments) {
+        return 16;
+    }
+    0
+}

@@ -1,4 +1,0 @@
-pub mod Finding
-pub mod Passed
-pub mod Searches
-pub mod Turns
