@@ -1,0 +1,3 @@
+pub mod Rack
+pub mod Listing
+pub mod Claims

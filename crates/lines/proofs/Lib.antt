@@ -1,0 +1,7 @@
+pub mod Spans
+pub mod Words
+pub mod Matches
+pub mod Numbers
+pub mod Reading
+pub mod Gathering
+pub mod Cutting

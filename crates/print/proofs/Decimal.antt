@@ -1,0 +1,77 @@
+-- Laws of a number's decimal digits. Assumes nothing.
+use Prim.Native.Nat.{ℕ, zero, suc, _+_, _*_, _/_, _%_, _^_, _≤_, _<_}
+use mathlib.Core.Path.{_≡_, sym, _∙_, ap}
+use mathlib.Core.Logic.{⊎-elim}
+use mathlib.Core.List.{List, [], _∷_, _++_}
+use native.Mathlib.Nat.{mod-eq-of-lt, pow-suc, one-le-pow}
+use native.Mathlib.Omega.{arith}
+use lib.ListN.{length, length-append}
+use borrow.Author.Tests.{lt-ltb, le-ltb}
+use Rattle.model.specs.Basics.{if_then_else_}
+use Rattle.model.specs.Console.{digits, decimal}
+use Rattle.model.proofs.Counts.{below-or}
+
+-- one digit
+digits-one : (k n : ℕ) → n < 10 → digits (suc k) n ≡ (48 + n) ∷ []
+unfolding digits if_then_else_
+digits-one k n l = rw (lt-ltb n 10 l, mod-eq-of-lt l)
+
+-- more than one: the last follows those of a tenth
+digits-more : (k n : ℕ) → 10 ≤ n → digits (suc k) n ≡ digits k (n / 10) ++ (48 + n % 10) ∷ []
+unfolding digits if_then_else_
+digits-more k n l = rw (le-ltb n 10 l)
+
+-- at most k digits
+digits-short : (k n : ℕ) → length (digits k n) ≤ k
+unfolding digits
+digits-short zero n = omega arith
+digits-short (suc k) n =
+    ⊎-elim
+    (λ l. rw (digits-one k n l) (omega arith))
+    (λ l. rw (digits-more k n l) (omega (arith, digits-short k (n / 10), length-append (digits k (n / 10)) ((48 + n % 10) ∷ []))))
+    (below-or n 10)
+
+-- w + 1 digits from 10 ^ w on, where k allows them
+digits-length : (w k n : ℕ) → w < k → 10 ^ w ≤ n → n < 10 ^ suc w → length (digits k n) ≡ suc w
+digits-length zero zero n l a b = absurd (omega arith)
+digits-length zero (suc k) n l a b = ap length (digits-one k n b)
+digits-length (suc w) zero n l a b = absurd (omega arith)
+digits-length (suc w) (suc k) n l a b =
+    let p : 10 ^ suc w ≡ 10 ^ w * 10 = pow-suc 10 w in
+    let q : 10 ^ suc (suc w) ≡ 10 ^ suc w * 10 = pow-suc 10 (suc w) in
+    let one : 1 ≤ 10 ^ w = one-le-pow w 10 (omega arith) in
+    let rest = digits-length w k (n / 10) (omega arith) (omega arith) (omega arith) in
+    ap length (digits-more k n (omega arith))
+    ∙ omega (arith, length-append (digits k (n / 10)) ((48 + n % 10) ∷ []))
+
+-- below 10 ^ (k + 1), k + 1 digits are all
+digits-enough : (k n : ℕ) → n < 10 ^ suc k → digits (suc (suc k)) n ≡ digits (suc k) n
+digits-enough zero n l = digits-one 1 n l ∙ sym (digits-one 0 n l)
+digits-enough (suc k) n l =
+    ⊎-elim
+    (λ h. digits-one (suc (suc k)) n h ∙ sym (digits-one (suc k) n h))
+    (λ h.
+    digits-more (suc (suc k)) n h
+    ∙ ap (λ (ds : List ℕ). ds ++ (48 + n % 10) ∷ []) (digits-enough k (n / 10) (omega (arith, pow-suc 10 (suc k))))
+    ∙ sym (digits-more (suc k) n h))
+    (below-or n 10)
+
+-- A 32-BIT NUMBER
+
+pub decimal-one : (n : ℕ) → n < 10 → decimal n ≡ (48 + n) ∷ []
+unfolding decimal
+decimal-one n l = digits-one 9 n l
+
+pub decimal-more : (n : ℕ) → n < 2 ^ 32 → 10 ≤ n → decimal n ≡ decimal (n / 10) ++ (48 + n % 10) ∷ []
+unfolding decimal
+decimal-more n f l =
+    digits-more 9 n l
+    ∙ ap (λ (ds : List ℕ). ds ++ (48 + n % 10) ∷ []) (sym (digits-enough 8 (n / 10) (omega arith)))
+
+pub decimal-length : (w n : ℕ) → w < 10 → 10 ^ w ≤ n → n < 10 ^ suc w → suc w ≡ length (decimal n)
+unfolding decimal
+decimal-length w n l a b = sym (digits-length w 10 n l a b)
+
+pub decimal-short : (n : ℕ) → length (decimal n) ≤ 10
+unfolding decimal
+decimal-short n = digits-short 10 n

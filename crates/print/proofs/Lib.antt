@@ -1,0 +1,4 @@
+pub mod Decimal
+pub mod Stores
+pub mod Backward
+pub mod Lines

@@ -1,0 +1,13 @@
+-- The parts of a printed line. Assumes nothing.
+use Prim.Native.Nat.{ℕ}
+use mathlib.Core.List.{List, [], _∷_, _++_, map}
+use Rattle.model.specs.Basics.{joined}
+use Rattle.model.specs.Console.{decimal}
+
+-- numbers in decimal, a blank before each
+unfoldable pub numbers : List ℕ → List ℕ
+numbers ns = joined (map (λ n. 32 ∷ decimal n) ns)
+
+-- the bytes of a word, numbers and a line feed
+unfoldable pub lineOf : List ℕ → List ℕ → List ℕ
+lineOf word ns = word ++ numbers ns ++ (10 ∷ [])

@@ -1,0 +1,4 @@
+// The program rackmap: lines on standard input, replies on standard output.
+fn main() {
+    serve::run();
+}

@@ -1,0 +1,28 @@
+-- A line keeps the invariant of the session, and room for the next reply. Assumes nothing.
+use Prim.Native.Nat.{ℕ, _+_, _≤_}
+use mathlib.Core.Path.{_≡_, sym, subst}
+use mathlib.Core.List.{List}
+use native.Mathlib.Omega.{arith}
+use lib.ListN.{length}
+use Rattle.model.specs.Table.{Arrays}
+use Rattle.model.specs.Console.{read}
+use Rattle.session.specs.Maps.{Right}
+use Rattle.session.specs.declared.state.State.{State}
+use Rattle.session.proofs.Rights.{right-next}
+use Rattle.console.specs.Rack.{Rack, rack, held, shown, answerTo, Served}
+use Rattle.console.specs.declared.Reply.{Reply}
+use Rattle.console.proofs.Serving.{shown-short}
+
+pub served-right
+    : (k : Rack) (l : List ℕ) (r : Reply) (one two : Arrays) → Right (held k) → Served k l r one two
+    → Right (held (rack (r .state) one two))
+served-right k l r one two right s = subst Right (sym (s .maps)) (right-next (held k) right (read l))
+
+pub served-room
+    : (k : Rack) (l : List ℕ) (at end most : ℕ) → end ≡ at + length (shown (answerTo k l)) → at + 64 ≤ most → end ≤ most
+served-room k l at end most e h = omega (arith, shown-short (answerTo k l))
+
+-- the same state by another name
+pub same-right
+    : (st st′ : State) (one two : Arrays) → st′ ≡ st → Right (held (rack st one two)) → Right (held (rack st′ one two))
+same-right st st′ one two e right = rw e right

@@ -1,0 +1,75 @@
+-- What the program's session holds and prints is document 01's session. Assumes nothing.
+use mathlib.Core.Path.{_≡_, refl, sym, _∙_, ap, ap₂}
+use mathlib.Core.Bool.{true, not, true≢false}
+use mathlib.Core.List.{[], _∷_}
+use native.Mathlib.Decide.{ℕ-discrete}
+use native.Mathlib.Omega.{arith}
+use Rattle.model.specs.Basics.{_and_}
+use Rattle.model.specs.Initial.{initial}
+use Rattle.model.specs.Expansion.{expanded}
+use Rattle.model.specs.Calls.{answer}
+use Rattle.model.specs.Console.{Session, fresh, noMap, isFresh, isUnreadable, sizes, commandRefusal, read, line, accepted as acceptedSession, acceptedText, after, printed}
+use Rattle.model.specs.declared.command.Command.{Command}
+use Rattle.model.specs.declared.command.Command.the-variants.{Fresh, Grow, Where, At, Moves, Unreadable}
+use Rattle.model.proofs.Refusals.{first-clear, accepted as answer-accepted, refused as answer-refused}
+use Rattle.model.proofs.Tables.{table-written}
+use Rattle.session.specs.Maps.{Maps, mapOf, beforeOf, sessionAt, session, performed, next, accepted, answered, spoken}
+use Rattle.session.specs.Claims.{SessionKept, SessionSpoken}
+use Rattle.session.specs.declared.state.Answer.the-variants as says
+use Rattle.session.proofs.Steps.{map-current, has-map}
+
+-- an accepted step leaves document 01's session
+performed-kept
+    : (m : Maps) (c : Command) → commandRefusal (session m) c ≡ 0 → session (performed m c) ≡ acceptedSession (session m) c
+unfolding performed acceptedSession session sessionAt mapOf beforeOf isFresh
+performed-kept m (Fresh b n) e = ap fresh (table-written (initial (sizes b n)) (m .this))
+performed-kept m (Grow b n) e =
+    let here = map-current (m .state .stage) (beforeOf m) (mapOf m) (has-map m (Grow b n) refl e) in
+    rw (here, table-written (expanded (mapOf m) (sizes b n)) (m .other))
+performed-kept m (Where x) e = refl
+performed-kept m (At y p) e = refl
+performed-kept m Moves e = refl
+performed-kept m Unreadable e = refl
+
+pub session-kept : SessionKept
+unfolding next after
+session-kept m l =
+    elim (ℕ-discrete (commandRefusal (session m) (read l)) 0) [
+      | yes e ↦
+          ap session (answer-accepted _ _ _ e)
+          ∙ performed-kept m (read l) e
+          ∙ sym (answer-accepted (commandRefusal (session m) (read l)) (acceptedSession (session m) (read l)) (session m) e)
+      | no n ↦
+          ap session (answer-refused _ _ _ n)
+          ∙ sym (answer-refused (commandRefusal (session m) (read l)) (acceptedSession (session m) (read l)) (session m) n)
+    ]
+
+-- its answer is printed as document 01 prints it
+accepted-spoken
+    : (s : Session) (c : Command) → commandRefusal s c ≡ 0 → spoken (acceptedSession s c) (accepted s c) ≡ acceptedText s c
+unfolding spoken acceptedSession accepted acceptedText commandRefusal isUnreadable
+accepted-spoken s (Fresh b n) e = refl
+accepted-spoken s (Grow b n) e = refl
+accepted-spoken s (Where x) e = refl
+accepted-spoken s (At y p) e = refl
+accepted-spoken s Moves e = refl
+accepted-spoken s Unreadable e =
+    let (none, rest) = first-clear (10, noMap s and not (isFresh Unreadable)) _ (λ z. omega arith) e in
+    absurd (true≢false (first-clear (23, true) _ (λ z. omega arith) rest .0))
+
+pub session-spoken : SessionSpoken
+unfolding after printed answered spoken
+session-spoken s l =
+    elim (ℕ-discrete (commandRefusal s (read l)) 0) [
+      | yes e ↦
+          ap₂ spoken (answer-accepted _ (acceptedSession s (read l)) s e) (answer-accepted _ (accepted s (read l)) _ e)
+          ∙ accepted-spoken s (read l) e
+          ∙ sym (answer-accepted _ (acceptedText s (read l)) _ e)
+      | no n ↦
+          ap (spoken (answer (commandRefusal s (read l)) (acceptedSession s (read l)) s)) (answer-refused _ (accepted s (read l)) _ n)
+          ∙ refused-line
+          ∙ sym (answer-refused _ (acceptedText s (read l)) _ n)
+    ]
+  where
+    refused-line : spoken (answer (commandRefusal s (read l)) (acceptedSession s (read l)) s) (says.Refused (commandRefusal s (read l))) ≡ line "refused" (commandRefusal s (read l) ∷ [])
+    refused-line = refl

@@ -1,0 +1,290 @@
+// One command of a session.
+use crate::state::Answer;
+use crate::state::Stage;
+use crate::state::State;
+use crate::state::Step;
+use model::command::Command;
+use model::table::Header;
+ghost use mathlib.Core.Path.{_≡_};
+ghost use mathlib.Core.Bool.{false};
+ghost use Rattle.model.specs.Table.{arrays};
+ghost use Rattle.model.specs.Refusal.{roomShort};
+ghost use Rattle.model.specs.declared.command.Command.the-variants as line;
+ghost use Rattle.session.specs.declared.state.Answer.the-variants as says;
+ghost use Rattle.session.specs.Maps.{maps, isEmpty as emptyAt, Mapped, Renews, Reads, Answers, Stepped, Right};
+
+// Whether there is no map.
+fn is_empty(state: State) -> bool
+    ensures { λ r. ⌜ r ≡ emptyAt (state .stage) ⌝ }
+{
+    let stage = state.stage;
+    match stage {
+        Stage::Empty => true,
+        Stage::Fresh => false,
+        Stage::Grown => false,
+    }
+}
+
+// A refused command: nothing changes.
+fn refused(state: State, number: u32) -> Step
+    ensures { λ r. ⌜ r ≡ record { state = state; flip = false; answer = says.Refused number } ⌝ }
+{
+    Step {
+        state,
+        flip: false,
+        answer: Answer::Refused { number },
+    }
+}
+
+// An accepted command that changes nothing.
+fn told(state: State, answer: Answer) -> Step
+    ensures { λ r. ⌜ r ≡ record { state = state; flip = false; answer = answer } ⌝ }
+{
+    Step {
+        state,
+        flip: false,
+        answer,
+    }
+}
+
+// `fresh`: a fresh map over the map.
+fn fresh(
+    state: State,
+    buckets: u32,
+    bins: u32,
+    tops: &mut [u32],
+    ends: &mut [u32],
+    blocks: &mut [u32],
+    adjustments: &mut [u32],
+) -> Step
+    requires { ⌜ roomShort (arrays (now tops) (now ends) (now blocks) (now adjustments)) ≡ false ⌝ }
+    ensures { λ r.
+        ⌜
+        Renews state (arrays (now (tops .entry)) (now (ends .entry)) (now (blocks .entry)) (now (adjustments .entry)))
+        (line.Fresh buckets bins) r
+        (arrays (now (tops .exit)) (now (ends .exit)) (now (blocks .exit)) (now (adjustments .exit)))
+        ⌝ }
+{
+    let wrong = sizes::size_refusal(buckets, bins);
+    if wrong != 0 {
+        return refused(state, wrong);
+    }
+    sizes::write_initial(buckets, bins, tops, ends, blocks, adjustments);
+    let before = state.before;
+    Step {
+        state: State {
+            stage: Stage::Fresh,
+            flipped: state.flipped,
+            bins,
+            current: Header {
+                buckets,
+                block_count: 1,
+                interval_count: 1,
+            },
+            before,
+        },
+        flip: false,
+        answer: Answer::Table {
+            moved: 0,
+            intervals: 1,
+        },
+    }
+}
+
+// `grow`: a growth of the map over the other table, which then is the map.
+fn grow(
+    state: State,
+    buckets: u32,
+    bins: u32,
+    tops: &[u32],
+    ends: &[u32],
+    blocks: &[u32],
+    adjustments: &[u32],
+    new_tops: &mut [u32],
+    new_ends: &mut [u32],
+    new_blocks: &mut [u32],
+    new_adjustments: &mut [u32],
+) -> Step
+    requires { ⌜ Mapped state (arrays (now tops) (now ends) (now blocks) (now adjustments)) ⌝ }
+    requires { ⌜ roomShort (arrays (now «new_tops») (now «new_ends») (now «new_blocks») (now «new_adjustments»)) ≡ false ⌝ }
+    ensures { λ r.
+        ⌜
+        Stepped
+        (maps state
+        (arrays (now (tops .entry)) (now (ends .entry)) (now (blocks .entry)) (now (adjustments .entry)))
+        (arrays (now («new_tops» .entry)) (now («new_ends» .entry)) (now («new_blocks» .entry)) (now («new_adjustments» .entry))))
+        (line.Grow buckets bins) r
+        (arrays (now (tops .entry)) (now (ends .entry)) (now (blocks .entry)) (now (adjustments .entry)))
+        (arrays (now («new_tops» .exit)) (now («new_ends» .exit)) (now («new_blocks» .exit)) (now («new_adjustments» .exit)))
+        ⌝ }
+{
+    if is_empty(state) {
+        return refused(state, 10);
+    }
+    let header = state.current;
+    let grown = growth::grown(
+        header,
+        tops,
+        ends,
+        blocks,
+        adjustments,
+        buckets,
+        bins,
+        new_tops,
+        new_ends,
+        new_blocks,
+        new_adjustments,
+    );
+    if grown.refusal != 0 {
+        return refused(state, grown.refusal);
+    }
+    let current = grown.header;
+    Step {
+        state: State {
+            stage: Stage::Grown,
+            flipped: !state.flipped,
+            bins,
+            current,
+            before: header,
+        },
+        flip: true,
+        answer: Answer::Table {
+            moved: grown.moved,
+            intervals: current.interval_count,
+        },
+    }
+}
+
+// `where`: the place of a bucket.
+fn place(
+    state: State,
+    tops: &[u32],
+    ends: &[u32],
+    blocks: &[u32],
+    adjustments: &[u32],
+    bucket: u32,
+) -> Step
+    requires { ⌜ Mapped state (arrays (now tops) (now ends) (now blocks) (now adjustments)) ⌝ }
+    ensures { λ r. ⌜ Reads state (arrays (now (tops .entry)) (now (ends .entry)) (now (blocks .entry)) (now (adjustments .entry))) (line.Where bucket) r ⌝ }
+{
+    if is_empty(state) {
+        return refused(state, 10);
+    }
+    let header = state.current;
+    let reply = lookup::placed(header, tops, ends, blocks, adjustments, bucket);
+    if reply.refusal != 0 {
+        return refused(state, reply.refusal);
+    }
+    told(
+        state,
+        Answer::Place {
+            bin: reply.bin,
+            position: reply.position,
+        },
+    )
+}
+
+// `at`: the bucket at a place.
+fn find(
+    state: State,
+    tops: &[u32],
+    ends: &[u32],
+    blocks: &[u32],
+    adjustments: &[u32],
+    bin: u32,
+    position: u32,
+) -> Step
+    requires { ⌜ Mapped state (arrays (now tops) (now ends) (now blocks) (now adjustments)) ⌝ }
+    ensures { λ r. ⌜ Reads state (arrays (now (tops .entry)) (now (ends .entry)) (now (blocks .entry)) (now (adjustments .entry))) (line.At bin position) r ⌝ }
+{
+    if is_empty(state) {
+        return refused(state, 10);
+    }
+    let header = state.current;
+    let reply = lookup::found(header, tops, ends, blocks, adjustments, bin, position);
+    if reply.refusal != 0 {
+        return refused(state, reply.refusal);
+    }
+    told(
+        state,
+        Answer::Bucket {
+            bucket: reply.bucket,
+        },
+    )
+}
+
+// `moves`: the rows are asked for page by page.
+fn moves(state: State) -> Step
+    ensures { λ r. ⌜ Answers state line.Moves r ⌝ }
+{
+    if is_empty(state) {
+        return refused(state, 10);
+    }
+    told(state, Answer::Moves)
+}
+
+// A line that says nothing.
+fn unreadable(state: State) -> Step
+    ensures { λ r. ⌜ Answers state line.Unreadable r ⌝ }
+{
+    if is_empty(state) {
+        return refused(state, 10); // before 23
+    }
+    refused(state, 23)
+}
+
+// What a command does to the map, in the first four arrays, and to the other table.
+pub fn act(
+    state: State,
+    command: Command,
+    tops: &mut [u32],
+    ends: &mut [u32],
+    blocks: &mut [u32],
+    adjustments: &mut [u32],
+    other_tops: &mut [u32],
+    other_ends: &mut [u32],
+    other_blocks: &mut [u32],
+    other_adjustments: &mut [u32],
+) -> Step
+    requires { ⌜
+        Right
+        (maps state
+        (arrays (now tops) (now ends) (now blocks) (now adjustments))
+        (arrays (now «other_tops») (now «other_ends») (now «other_blocks») (now «other_adjustments»)))
+        ⌝ }
+    ensures { λ r.
+        ⌜
+        Stepped
+        (maps state
+        (arrays (now (tops .entry)) (now (ends .entry)) (now (blocks .entry)) (now (adjustments .entry)))
+        (arrays (now («other_tops» .entry)) (now («other_ends» .entry)) (now («other_blocks» .entry)) (now («other_adjustments» .entry))))
+        command r
+        (arrays (now (tops .exit)) (now (ends .exit)) (now (blocks .exit)) (now (adjustments .exit)))
+        (arrays (now («other_tops» .exit)) (now («other_ends» .exit)) (now («other_blocks» .exit)) (now («other_adjustments» .exit)))
+        ⌝ }
+{
+    match command {
+        Command::Fresh { buckets, bins } => {
+            fresh(state, buckets, bins, tops, ends, blocks, adjustments)
+        }
+        Command::Grow { buckets, bins } => grow(
+            state,
+            buckets,
+            bins,
+            tops,
+            ends,
+            blocks,
+            adjustments,
+            other_tops,
+            other_ends,
+            other_blocks,
+            other_adjustments,
+        ),
+        Command::Where { bucket } => place(state, tops, ends, blocks, adjustments, bucket),
+        Command::At { bin, position } => {
+            find(state, tops, ends, blocks, adjustments, bin, position)
+        }
+        Command::Moves => moves(state),
+        Command::Unreadable => unreadable(state),
+    }
+}
