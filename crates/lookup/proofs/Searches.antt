@@ -47,10 +47,6 @@ module _ (h : Header) (a : Arrays) (s : Sound h a) where
   adjustment-below i l =
       omega (arith, s .adjusted i l, held-others h a (getD (a .blocks) i 0) (before (a .ends) i))
 
-  -- the last interval ends at B
-  pub last-end : getD (a .ends) (h .«interval_count» - 1) 0 ≡ h .buckets
-  last-end = sym (before-some (a .ends) (h .«interval_count») (s .someIntervals)) ∙ s .lastEnd
-
   pub located-at
       : (i x : ℕ) → i < h .«interval_count» → before (a .ends) i ≤ x → x < getD (a .ends) i 0 → x < h .buckets
       → located (table h a) x ≡ At i (x - getD (a .adjustments) i 0)

@@ -1,5 +1,6 @@
 // What reads a sound table. Nothing here checks it again.
 ghost use Prim.Native.Nat.{_<_, _≤_};
+ghost use mathlib.Core.Logic.{_⊎_};
 ghost use mathlib.Core.Path.{_≡_};
 ghost use lib.ListN.{length, take};
 ghost use Rattle.model.specs.Table.{bins as binsOf};
@@ -16,7 +17,14 @@ use model::table::Header;
 use table::before;
 use table::bin_count;
 
-// The interval of a bucket, by binary search, and the bucket's rank.
+// 1 where a bucket is past an end, and 0 where it is not: by arithmetic, since a branch on it would often be guessed wrong.
+fn past(end: u32, bucket: u32) -> usize
+    ensures { λ r. ⌜ ((end ≤ bucket) × (r ≡ 1)) ⊎ ((bucket < end) × (r ≡ 0)) ⌝ }
+{
+    ((bucket as u64 + 4_294_967_296 - end as u64) / 4_294_967_296) as usize
+}
+
+// The interval of a bucket, by binary search, and the bucket's rank. It is one of `count` intervals from `low` on.
 pub fn locate(
     h: Header,
     tops: &[u32],
@@ -32,14 +40,11 @@ pub fn locate(
         return Located::Outside;
     }
     let mut low = 0;
-    let mut high = h.interval_count as usize - 1;
-    while low < high {
-        let middle = low + (high - low) / 2;
-        if bucket < ends[middle] {
-            high = middle;
-        } else {
-            low = middle + 1;
-        }
+    let mut count = h.interval_count as usize;
+    while 1 < count {
+        let half = count / 2;
+        count -= half;
+        low += half * past(ends[low + half - 1], bucket);
     }
     Located::At {
         interval: low,
