@@ -1,12 +1,12 @@
 -- A line keeps the invariant of the session, and room for the next reply. Assumes nothing.
 use Prim.Native.Nat.{ℕ, _+_, _≤_}
-use mathlib.Core.Path.{_≡_, sym, subst}
+use mathlib.Core.Path.{_≡_, sym, _∙_, ap, subst}
 use mathlib.Core.List.{List}
 use native.Mathlib.Omega.{arith}
 use lib.ListN.{length}
 use Rattle.model.specs.Table.{Arrays}
 use Rattle.model.specs.Console.{read}
-use Rattle.session.specs.Maps.{Right}
+use Rattle.session.specs.Maps.{next, Right}
 use Rattle.session.specs.declared.state.State.{State}
 use Rattle.session.proofs.Rights.{right-next}
 use Rattle.console.specs.Rack.{Rack, rack, held, shown, answerTo, Served}
@@ -17,6 +17,12 @@ pub served-right
     : (k : Rack) (l : List ℕ) (r : Reply) (one two : Arrays) → Right (held k) → Served k l r one two
     → Right (held (rack (r .state) one two))
 served-right k l r one two right s = subst Right (sym (s .maps)) (right-next (held k) right (read l))
+
+-- and leaves what its command makes of the maps
+pub served-next
+    : (k : Rack) (l : List ℕ) (r : Reply) (st : State) (one two : Arrays) → st ≡ r .state → Served k l r one two
+    → held (rack st one two) ≡ next (held k) (read l)
+served-next k l r st one two e s = ap (λ st. held (rack st one two)) e ∙ s .maps
 
 pub served-room
     : (k : Rack) (l : List ℕ) (at end most : ℕ) → end ≡ at + length (shown (answerTo k l)) → at + 64 ≤ most → end ≤ most

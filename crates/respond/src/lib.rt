@@ -5,9 +5,10 @@ use console::step::step;
 use session::state::State;
 ghost use mathlib.Core.Path.{_≡_};
 ghost use Prim.Native.Nat.{_+_, _≤_};
-ghost use lib.ListN.{length};
+ghost use lib.ListN.{length, take};
 ghost use Rattle.model.specs.Table.{arrays};
-ghost use Rattle.session.specs.Maps.{Right};
+ghost use Rattle.model.specs.Console.{read as readOf};
+ghost use Rattle.session.specs.Maps.{Right, next as after};
 ghost use Rattle.console.specs.Rack.{rack, held};
 
 // After a line: the state, the place in `out` behind what is not yet written, and whether the output is still open.
@@ -169,6 +170,19 @@ pub fn one(
         (arrays (now («second_tops» .exit)) (now («second_ends» .exit)) (now («second_blocks» .exit)) (now («second_adjustments» .exit)))))
         ⌝ }
     ensures room { λ r. ⌜ r .at + 64 ≤ 491584 ⌝ }
+    ensures done { λ r.
+        ⌜
+        held
+        (rack (r .state)
+        (arrays (now (tops .exit)) (now (ends .exit)) (now (blocks .exit)) (now (adjustments .exit)))
+        (arrays (now («second_tops» .exit)) (now («second_ends» .exit)) (now («second_blocks» .exit)) (now («second_adjustments» .exit))))
+        ≡ after
+        (held
+        (rack state
+        (arrays (now (tops .entry)) (now (ends .entry)) (now (blocks .entry)) (now (adjustments .entry)))
+        (arrays (now («second_tops» .entry)) (now («second_ends» .entry)) (now («second_blocks» .entry)) (now («second_adjustments» .entry)))))
+        (readOf (take kept (now (line .entry))))
+        ⌝ }
 {
     let reply = step(
         &line[..kept],

@@ -2,7 +2,7 @@
 use mathlib.Core.Path.{sym}
 use native.Mathlib.Omega.{arith}
 use lib.Seq.{length-take-le}
-use Rattle.respond.proofs.Kept.{served-right, served-room, same-right}
+use Rattle.respond.proofs.Kept.{served-right, served-next, served-room, same-right}
 use Rattle.respond.proofs.one.Statement.{statement}
 use Rattle.respond.proofs.one.Tie as tie
 
@@ -18,7 +18,7 @@ settle-requires c κs = (served-right _ _ _ _ _ (c .before .before .before .befo
 returns : tie.Need-returns
 returns c =
     let e = c .settle .ensures in
-    (same-right _ _ _ _ (e .0) (served-right _ _ _ _ _ (c .before .before .before .before .before .before .before .before .before .before .before .before .before .before .before .before .before .before .before .before .before .before .before .pre .0) (c .before .before .before .before .before .before .before .before .before .before .before .step .ensures .0)), e .1)
+    (same-right _ _ _ _ (e .0) (served-right _ _ _ _ _ (c .before .before .before .before .before .before .before .before .before .before .before .before .before .before .before .before .before .before .before .before .before .before .before .pre .0) (c .before .before .before .before .before .before .before .before .before .before .before .step .ensures .0)), (e .1, served-next _ _ _ _ _ _ (e .0) (c .before .before .before .before .before .before .before .before .before .before .before .step .ensures .0)))
 
 pub one-spec : {M : Type 1} → statement M
 one-spec = tie.close (tie.spec slice-aggregate-step step-requires settle-requires returns)

@@ -31,7 +31,7 @@ returns-2 c =
     let pre = c .before .before .before .before .before .before .before .before .before .before .before .before .before .before .before .before .before .before .before .before .pre in
     let within = cut-within _ _ _ (omega (arith, pre .1 .0)) (cut .0) in
     let done = c .before .one .ensures in
-    (done .0, (omega (arith, cut .0), omega (arith, within, c .before .before .before .before .before .before .before .before .before .before .before .before .before .before .before .if1 .left), omega arith, done .1))
+    (done .0, (omega (arith, cut .0), omega (arith, within, c .before .before .before .before .before .before .before .before .before .before .before .before .before .before .before .if1 .left), omega arith, done .1 .0))
 
 pub pieced-spec : {M : Type 1} → statement M
 pieced-spec = tie.close (tie.spec gather-requires returns add-behind one-requires returns-2)

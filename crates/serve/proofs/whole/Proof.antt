@@ -57,7 +57,7 @@ returns-2 c =
     let end = c .before .before .before .before .before .before .before .before .before .before .before .before .before .before .feed-at .ensures in
     let within = cut-within _ _ _ (omega (arith, pre .1 .0)) end in
     let done = c .before .one .ensures in
-    (done .0, (omega (arith, end), omega (arith, within, c .before .before .before .before .before .before .before .before .before .before .before .before .before .if1 .left), omega arith, done .1))
+    (done .0, (omega (arith, end), omega (arith, within, c .before .before .before .before .before .before .before .before .before .before .before .before .before .if1 .left), omega arith, done .1 .0))
 
 pub whole-spec : {M : Type 1} → statement M
 whole-spec =
