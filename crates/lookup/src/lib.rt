@@ -8,6 +8,7 @@ ghost use Rattle.model.specs.Place.{located, locatedRefusal, blockOfBin, binSiz
 ghost use Rattle.model.specs.Refusal.{first};
 ghost use Rattle.model.specs.Calls.{placeAnswer, findAnswer, findTests, binSizeAnswer, binSizeTests};
 ghost use Rattle.model.specs.Lent.{lent, LentSound};
+ghost use Rattle.lookup.specs.Search.{Among};
 use model::reply::BinSizeReply;
 use model::reply::FindReply;
 use model::reply::PlaceReply;
@@ -17,14 +18,47 @@ use model::table::Header;
 use table::before;
 use table::bin_count;
 
-// 1 where a bucket is past an end, and 0 where it is not: by arithmetic, since a branch on it would often be guessed wrong.
+// Intervals of a table: `count` of them from place `low` on.
+struct Span {
+    low: usize,
+    count: usize,
+}
+
+// 1 where a bucket is past an end, and 0 where it is not: by arithmetic, so that the search has no branch on it.
 fn past(end: u32, bucket: u32) -> usize
     ensures { λ r. ⌜ ((end ≤ bucket) × (r ≡ 1)) ⊎ ((bucket < end) × (r ≡ 0)) ⌝ }
 {
     ((bucket as u64 + 4_294_967_296 - end as u64) / 4_294_967_296) as usize
 }
 
-// The interval of a bucket, by binary search, and the bucket's rank. It is one of `count` intervals from `low` on.
+// At most three intervals of which the bucket's is one. A turn leaves a quarter of them: it reads three ends that do not wait for
+// each other, so the search takes half the turns of one that halves.
+fn narrow(
+    h: Header,
+    tops: &[u32],
+    ends: &[u32],
+    blocks: &[u32],
+    adjustments: &[u32],
+    bucket: u32,
+) -> Span
+    requires { ⌜ LentSound h (now tops) (now ends) (now blocks) (now adjustments) ⌝ }
+    requires { ⌜ bucket < h .buckets ⌝ }
+    ensures { λ r. ⌜ Among (now (ends .entry)) (h .«interval_count») bucket (r .low) (r .count) ⌝ }
+{
+    let mut low = 0;
+    let mut count = h.interval_count as usize;
+    while 3 < count {
+        let quarter = count / 4;
+        count -= 3 * quarter;
+        let first = past(ends[low + quarter - 1], bucket);
+        let second = past(ends[low + 2 * quarter - 1], bucket);
+        let third = past(ends[low + 3 * quarter - 1], bucket);
+        low += quarter * (first + second + third);
+    }
+    Span { low, count }
+}
+
+// The interval of a bucket, and the bucket's rank.
 pub fn locate(
     h: Header,
     tops: &[u32],
@@ -39,12 +73,12 @@ pub fn locate(
     if h.buckets <= bucket {
         return Located::Outside;
     }
-    let mut low = 0;
-    let mut count = h.interval_count as usize;
+    let span = narrow(h, tops, ends, blocks, adjustments, bucket);
+    let mut low = span.low;
+    let mut count = span.count;
     while 1 < count {
-        let half = count / 2;
-        count -= half;
-        low += half * past(ends[low + half - 1], bucket);
+        count -= 1;
+        low += past(ends[low], bucket);
     }
     Located::At {
         interval: low,
