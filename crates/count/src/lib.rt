@@ -3,8 +3,6 @@ use model::plan::Action;
 use model::plan::Plan;
 use model::table::Header;
 use plan::blocks_after;
-use plan::dues_after;
-use plan::dues_before;
 use plan::plan_at;
 use plan::some_fall;
 ghost use mathlib.Core.Path.{_≡_};
@@ -16,6 +14,7 @@ ghost use Rattle.model.specs.Expansion.{newTops, pieces as piecesOf, drained, m
 ghost use Rattle.model.specs.Calls.{growthTests};
 ghost use Rattle.model.specs.Console.{sizes as sizesOf};
 ghost use Rattle.model.specs.Lent.{lent, LentSound};
+ghost use Rattle.plan.specs.Shares.{DuesBefore, DuesAfter};
 ghost use Rattle.count.specs.Given.{Drains, Fills};
 ghost use Rattle.count.specs.Made.{made, leftBehind, pieceOf};
 
@@ -197,7 +196,8 @@ fn count_pieces(
     pieces
 }
 
-// The counting pass: how many intervals the growth's table needs, and how many buckets it moves.
+// The counting pass: how many intervals the growth's table needs, and how many buckets it moves. `olds` and `dues` are what each
+// block has, and is due after the growth.
 pub fn measure(
     h: Header,
     tops: &[u32],
@@ -206,9 +206,13 @@ pub fn measure(
     adjustments: &[u32],
     buckets: u32,
     bins: u32,
+    olds: &[u32; 65],
+    dues: &[u32; 65],
 ) -> Growth
     requires { ⌜ LentSound h (now tops) (now ends) (now blocks) (now adjustments) ⌝ }
     requires { ⌜ first (growthTests (lent h (now tops) (now ends) (now blocks) (now adjustments)) (sizesOf buckets bins)) ≡ 0 ⌝ }
+    requires { ⌜ DuesBefore (lent h (now tops) (now ends) (now blocks) (now adjustments)) (now olds) ⌝ }
+    requires { ⌜ DuesAfter (lent h (now tops) (now ends) (now blocks) (now adjustments)) (sizesOf buckets bins) (now dues) ⌝ }
     ensures intervals { λ r.
         ⌜
         r .intervals
@@ -228,8 +232,6 @@ pub fn measure(
         (sizesOf buckets bins))
         ⌝ }
 {
-    let olds = dues_before(h, tops, ends, blocks, adjustments);
-    let dues = dues_after(h, tops, ends, blocks, adjustments, buckets, bins);
     if some_fall(
         h,
         tops,
@@ -238,10 +240,10 @@ pub fn measure(
         adjustments,
         buckets,
         bins,
-        &olds,
-        &dues,
+        olds,
+        dues,
     ) {
-        return count_drained(h, tops, ends, blocks, adjustments, buckets, bins, &dues);
+        return count_drained(h, tops, ends, blocks, adjustments, buckets, bins, dues);
     }
     Growth {
         intervals: h.interval_count
@@ -253,8 +255,8 @@ pub fn measure(
                 adjustments,
                 buckets,
                 bins,
-                &olds,
-                &dues,
+                olds,
+                dues,
             ),
         moved: 0,
     }

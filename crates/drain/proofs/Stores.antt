@@ -7,7 +7,7 @@ use native.Mathlib.Omega.{arith}
 use lib.ListN.{length, length-append, length-map}
 use lib.Seq.{sets, length-sets}
 use Rattle.model.specs.Table.{Interval, Table, arrays, over, written}
-use Rattle.model.proofs.Entries.{sets-more, sets-over}
+use Rattle.model.proofs.Entries.{sets-over, Put, put-more}
 use Rattle.count.proofs.Parts.{Front}
 use Rattle.drain.specs.Stored.{Room, Stored}
 
@@ -40,11 +40,8 @@ column-more
     : (f : Interval → ℕ) (is js : List Interval) (o p : ℕ) (xs xs′ xs″ : List ℕ) → p ≡ o + length is
     → xs′ ≡ sets xs o (map f is) → xs″ ≡ sets xs′ p (map f js) → xs″ ≡ sets xs o (map f (is ++ js))
 column-more f is js o p xs xs′ xs″ c e k =
-    let at : p ≡ o + length (map f is) = omega (arith, length-map is f) in
-    k
-    ∙ ap (λ (l : List ℕ). sets l p (map f js)) e
-    ∙ ap (λ q. sets (sets xs o (map f is)) q (map f js)) at
-    ∙ sets-more (map f is) (map f js) xs o
+    let p : Put o p (map f is) xs xs′ = record { place = omega (arith, length-map is f); holds = e } in
+    put-more p (map f js) k refl .holds
     ∙ ap (sets xs o) (sym (map-append f is js))
 
 -- more intervals behind those stored

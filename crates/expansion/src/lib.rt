@@ -4,8 +4,6 @@ use drain::write_drained;
 use drain::write_interval;
 use model::table::Header;
 use plan::blocks_after;
-use plan::dues_after;
-use plan::dues_before;
 use plan::some_fall;
 use table::bin_count;
 ghost use mathlib.Core.Bool.{false};
@@ -24,6 +22,7 @@ ghost use Rattle.model.specs.Console.{sizes as sizesOf};
 ghost use Rattle.model.proofs.Tables.{lentInterval};
 ghost use Rattle.model.proofs.Filled.{lengthTo};
 ghost use Rattle.model.specs.Lent.{lent, LentSound};
+ghost use Rattle.plan.specs.Shares.{DuesBefore, DuesAfter};
 ghost use Rattle.count.specs.Given.{Fills};
 ghost use Rattle.drain.specs.Stored.{Room, Stored};
 
@@ -246,12 +245,16 @@ fn write_intervals(
     adjustments: &[u32],
     buckets: u32,
     bins: u32,
+    olds: &[u32; 65],
+    dues: &[u32; 65],
     new_ends: &mut [u32],
     new_blocks: &mut [u32],
     new_adjustments: &mut [u32],
 )
     requires { ⌜ LentSound h (now tops) (now ends) (now blocks) (now adjustments) ⌝ }
     requires { ⌜ first (growthTests (lent h (now tops) (now ends) (now blocks) (now adjustments)) (sizesOf buckets bins)) ≡ 0 ⌝ }
+    requires { ⌜ DuesBefore (lent h (now tops) (now ends) (now blocks) (now adjustments)) (now olds) ⌝ }
+    requires { ⌜ DuesAfter (lent h (now tops) (now ends) (now blocks) (now adjustments)) (sizesOf buckets bins) (now dues) ⌝ }
     requires { ⌜
         Room (length (expanded (lent h (now tops) (now ends) (now blocks) (now adjustments)) (sizesOf buckets bins) .intervals))
         (now «new_ends») (now «new_blocks») (now «new_adjustments»)
@@ -267,8 +270,6 @@ fn write_intervals(
         (now («new_ends» .exit)) (now («new_blocks» .exit)) (now («new_adjustments» .exit))
         ⌝ }
 {
-    let olds = dues_before(h, tops, ends, blocks, adjustments);
-    let dues = dues_after(h, tops, ends, blocks, adjustments, buckets, bins);
     if some_fall(
         h,
         tops,
@@ -277,8 +278,8 @@ fn write_intervals(
         adjustments,
         buckets,
         bins,
-        &olds,
-        &dues,
+        olds,
+        dues,
     ) {
         write_drained(
             h,
@@ -288,7 +289,7 @@ fn write_intervals(
             adjustments,
             buckets,
             bins,
-            &dues,
+            dues,
             new_ends,
             new_blocks,
             new_adjustments,
@@ -303,15 +304,15 @@ fn write_intervals(
         adjustments,
         buckets,
         bins,
-        &olds,
-        &dues,
+        olds,
+        dues,
         new_ends,
         new_blocks,
         new_adjustments,
     );
 }
 
-// The growth's table, into arrays with room for it.
+// The growth's table, into arrays with room for it. `olds` and `dues` are what each block has, and is due after the growth.
 pub fn write_expanded(
     h: Header,
     tops: &[u32],
@@ -320,6 +321,8 @@ pub fn write_expanded(
     adjustments: &[u32],
     buckets: u32,
     bins: u32,
+    olds: &[u32; 65],
+    dues: &[u32; 65],
     new_tops: &mut [u32],
     new_ends: &mut [u32],
     new_blocks: &mut [u32],
@@ -327,6 +330,8 @@ pub fn write_expanded(
 )
     requires { ⌜ LentSound h (now tops) (now ends) (now blocks) (now adjustments) ⌝ }
     requires { ⌜ first (growthTests (lent h (now tops) (now ends) (now blocks) (now adjustments)) (sizesOf buckets bins)) ≡ 0 ⌝ }
+    requires { ⌜ DuesBefore (lent h (now tops) (now ends) (now blocks) (now adjustments)) (now olds) ⌝ }
+    requires { ⌜ DuesAfter (lent h (now tops) (now ends) (now blocks) (now adjustments)) (sizesOf buckets bins) (now dues) ⌝ }
     requires { ⌜ roomShort (arrays (now «new_tops») (now «new_ends») (now «new_blocks») (now «new_adjustments»)) ≡ false ⌝ }
     requires { ⌜ length (expanded (lent h (now tops) (now ends) (now blocks) (now adjustments)) (sizesOf buckets bins) .intervals) ≤ maxIntervals ⌝ }
     ensures { λ _.
@@ -352,6 +357,8 @@ pub fn write_expanded(
         adjustments,
         buckets,
         bins,
+        olds,
+        dues,
         new_ends,
         new_blocks,
         new_adjustments,

@@ -1,4 +1,3 @@
-pub mod Stores
 pub mod Walk
 pub mod Shares
 pub mod Passed

@@ -36,17 +36,18 @@ fn rising(f: &[u8], first: usize, count: usize) -> bool
     requires { ⌜ 4 * (first + count) ≤ length (now f) ⌝ }
     ensures { λ r. ⌜ r ≡ rises (from (number (now (f .entry))) first count) count ⌝ }
 {
+    let mut ok = true;
     let mut last: u32 = 0;
     let mut i: usize = 0;
     while i < count {
         let x = number_at(f, first + i);
         if x <= last {
-            return false;
+            ok = false;
         }
         last = x;
         i += 1;
     }
-    true
+    ok
 }
 
 // 12: tops that don't rise strictly, a first top of 0, a last top above its limit or above B.
@@ -85,14 +86,15 @@ pub fn blocks_wrong(h: Header, f: &[u8]) -> bool
 {
     let count = h.interval_count as usize;
     let first = 3 + h.block_count as usize + count;
+    let mut wrong = false;
     let mut i: usize = 0;
     while i < count {
         if h.block_count <= number_at(f, first + i) {
-            return true;
+            wrong = true;
         }
         i += 1;
     }
-    false
+    wrong
 }
 
 // How many buckets each block holds.

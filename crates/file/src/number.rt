@@ -3,13 +3,13 @@ use model::table::Header;
 ghost use mathlib.Core.Path.{_≡_};
 ghost use Prim.Native.Nat.{_+_, _*_, _≤_};
 ghost use lib.ListN.{length};
+ghost use lib.Seq.{sets};
 ghost use Rattle.model.specs.Saved.{bytesOf, number, loadedHeader};
-ghost use Rattle.file.specs.Stored.{overAt};
 
 // Writes x over the 4 bytes from `at` on.
 pub fn put_number(out: &mut [u8], at: usize, x: u32)
     requires { ⌜ at + 4 ≤ length (now out) ⌝ }
-    ensures { λ _. ⌜ now (out .exit) ≡ overAt at (bytesOf x) (now (out .entry)) ⌝ }
+    ensures { λ _. ⌜ now (out .exit) ≡ sets (now (out .entry)) at (bytesOf x) ⌝ }
 {
     out[at] = (x % 256) as u8;
     out[at + 1] = (x / 256 % 256) as u8;

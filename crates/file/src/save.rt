@@ -5,15 +5,15 @@ ghost use mathlib.Core.Path.{_≡_};
 ghost use mathlib.Core.List.{[], map};
 ghost use Prim.Native.Nat.{_+_, _*_, _≤_};
 ghost use lib.ListN.{length, take};
+ghost use lib.Seq.{sets};
 ghost use Rattle.model.specs.Basics.{joined};
 ghost use Rattle.model.specs.Table.{arrays, table, over};
 ghost use Rattle.model.specs.Saved.{bytesOf, saved, savedLength};
-ghost use Rattle.file.specs.Stored.{overAt};
 
 // Writes the first `count` numbers over the bytes from `at` on.
 fn put_numbers(xs: &[u32], count: usize, out: &mut [u8], at: usize)
     requires { ⌜ (count ≤ length (now xs)) × (at + 4 * count ≤ length (now out)) ⌝ }
-    ensures { λ _. ⌜ now (out .exit) ≡ overAt at (joined (map bytesOf (take count (now (xs .entry))))) (now (out .entry)) ⌝ }
+    ensures { λ _. ⌜ now (out .exit) ≡ sets (now (out .entry)) at (joined (map bytesOf (take count (now (xs .entry))))) ⌝ }
 {
     let mut i: usize = 0;
     while i < count {

@@ -40,7 +40,30 @@ pub fn grown(
     if wrong != 0 {
         return refused_table(wrong);
     }
-    let growth = count::measure(header, tops, ends, blocks, adjustments, buckets, bins);
+    let mut olds = [0u32; 65];
+    let mut dues = [0u32; 65];
+    plan::dues_before(header, tops, ends, blocks, adjustments, &mut olds);
+    plan::dues_after(
+        header,
+        tops,
+        ends,
+        blocks,
+        adjustments,
+        buckets,
+        bins,
+        &mut dues,
+    );
+    let growth = count::measure(
+        header,
+        tops,
+        ends,
+        blocks,
+        adjustments,
+        buckets,
+        bins,
+        &olds,
+        &dues,
+    );
     if 2_081 < growth.intervals {
         return refused_table(8);
     }
@@ -53,6 +76,8 @@ pub fn grown(
         adjustments,
         buckets,
         bins,
+        &olds,
+        &dues,
         new_tops,
         new_ends,
         new_blocks,

@@ -1,13 +1,15 @@
 -- Laws of entries stored one after the other in a list (`sets` of lib.Seq). Assumes nothing.
 use Prim.Native.Nat.{ℕ, suc, _+_, _≤_, _<_}
-use mathlib.Core.Path.{_≡_, sym, _∙_, ap}
+use mathlib.Core.Path.{_≡_, refl, sym, _∙_, ap, subst}
 use mathlib.Core.List.{List, [], _∷_, _++_}
 use native.Mathlib.Nat.{add-zero, zero-add}
 use native.Mathlib.Numerals.{add-one}
 use native.Mathlib.Omega.{arith}
 use lib.ListN.{length, getD, take, drop, set, length-append}
-use lib.Seq.{length-take-le, take-suc, sets, sets-eq}
+use lib.Seq.{length-take-le, take-suc, sets, sets-eq, length-sets}
+use Rattle.model.specs.Basics.{from}
 use Rattle.model.specs.Table.{over}
+use Rattle.model.proofs.Loads.{from-next}
 
 -- more entries behind those stored
 pub sets-more
@@ -44,3 +46,46 @@ copy-next xs old out i l e =
     ∙ ap (λ k. set (sets old 0 (take i xs)) k (getD xs i 0)) at
     ∙ sets-more (take i xs) (getD xs i 0 ∷ []) old 0
     ∙ ap (sets old 0) (sym (take-suc xs i 0 l) ∙ ap (λ k. take k xs) (sym (add-one i)))
+
+-- A LOOP THAT WRITES
+
+-- the list `out` is `old` with new entries from place `at` up to place o
+pub record Put (at o : ℕ) (new old out : List ℕ) : Type 0 where
+  pub place : o ≡ at + length new
+  pub holds : out ≡ sets old at new
+
+-- at its start
+pub put-none : (at : ℕ) (old : List ℕ) → Put at at [] old old
+put-none at old = record { place = sym (add-zero at); holds = refl }
+
+module _ {at o : ℕ} {new old out : List ℕ} (p : Put at o new old out) where
+  -- the length is kept
+  pub put-length : length out ≡ length old
+  put-length = ap length (p .holds) ∙ length-sets old at new
+
+  -- more entries at the place reached
+  pub put-more
+      : {o′ : ℕ} {out′ : List ℕ} (more : List ℕ) → out′ ≡ sets out o more → o′ ≡ o + length more
+      → Put at o′ (new ++ more) old out′
+  put-more more e c =
+      record {
+        place = omega (arith, p .place, length-append new more);
+        holds =
+            e
+            ∙ ap (λ (m : List ℕ). sets m o more) (p .holds)
+            ∙ ap (λ k. sets (sets old at new) k more) (p .place)
+            ∙ sets-more new more old at;
+      }
+
+-- from the first place on, where there is room
+pub put-over : {o : ℕ} {new old out : List ℕ} → Put 0 o new old out → o ≤ length old → out ≡ over new old
+put-over {new = new} {old = old} p l = p .holds ∙ sets-over new old (omega (arith, p .place))
+
+-- of g a, g (a + 1), ..: the next of them
+pub put-next
+    : {i : ℕ} {old out : List ℕ} (g : ℕ → ℕ) (a v : ℕ) → Put 0 i (from g a i) old out → v ≡ g (a + i)
+    → Put 0 (i + 1) (from g a (i + 1)) old (set out i v)
+put-next {i} {old} {out} g a v p e =
+    subst (λ (new : List ℕ). Put 0 (i + 1) new old (set out i v))
+    (ap (λ w. from g a i ++ w ∷ []) e ∙ sym (from-next g a i))
+    (put-more p (v ∷ []) refl refl)

@@ -1,5 +1,5 @@
 -- Laws of rules 15 and 16: that what a block holds depends on ends and blocks alone, the array of sums over the intervals,
--- a block's due in closed form, and what makes each test hold or not. Assumes nothing.
+-- a block's due in closed form, and what makes the test of 15 hold or not. Assumes nothing.
 use Prim.Native.Nat.{ℕ, zero, suc, _+_, _-_, _/_, _≤_, _<_}
 use mathlib.Core.Path.{_≡_, refl, sym, _∙_, ap}
 use mathlib.Core.Logic.{⊎-elim}
@@ -201,16 +201,3 @@ module _
         ap not
         (all-fails _ (h .«block_count») j l
         (ne-eqb _ _ (λ e. f (e ∙ ap (λ s. dueOfBlock s (a .tops) j) (shape-lent h a o t)))))
-
--- RULE 16
-
-module _ (h : Header) (a : Arrays) where
-  pub adjustments-right
-      : ((i : ℕ) → i < h .«interval_count» → getD (a .adjustments) i 0 ≡ adjustmentOf h a i) → adjustmentsWrong h a ≡ false
-  unfolding adjustmentsWrong
-  adjustments-right r = ap not (all-holds _ (h .«interval_count») (λ i l. eq-eqb _ _ (r i l)))
-
-  pub adjustments-fail
-      : (i : ℕ) → i < h .«interval_count» → (getD (a .adjustments) i 0 ≡ adjustmentOf h a i → ⊥) → adjustmentsWrong h a ≡ true
-  unfolding adjustmentsWrong
-  adjustments-fail i l f = ap not (all-fails _ (h .«interval_count») i l (ne-eqb _ _ f))

@@ -60,7 +60,8 @@ abbrev pub rowsBelow : Table → Table → ℕ → List (List ℕ)
 rowsBelow t u m = joined (from (rowIf t u) 0 m)
 
 module _ (t u : Table) where
-  rows-more : (m n : ℕ) → rowsBelow t u (m + n) ≡ rowsBelow t u m ++ joined (from (rowIf t u) m n)
+  -- the rows of the buckets below m, and of the n behind them
+  pub rows-more : (m n : ℕ) → rowsBelow t u (m + n) ≡ rowsBelow t u m ++ joined (from (rowIf t u) m n)
   rows-more m n =
       ap joined (sym (from-append (rowIf t u) 0 m n))
       ∙ joined-append (from (rowIf t u) 0 m) (from (rowIf t u) (0 + m) n)

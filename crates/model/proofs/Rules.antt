@@ -1,15 +1,14 @@
--- Laws of the tests of rules 11 to 14: what makes each hold or not, and what it shows that one does not hold.
--- Assumes nothing.
+-- Laws of the tests of rules 11 to 14: of their parts, and what it shows that one does not hold. Assumes nothing.
 use Prim.Native.Nat.{ℕ, zero, suc, _+_, _-_, _≤_, _<_}
 use mathlib.Core.Path.{_≡_, refl, sym, _∙_, ap}
 use mathlib.Core.Logic.{⊎-elim}
-use mathlib.Core.Bool.{Bool, true, false, not, false≢true}
+use mathlib.Core.Bool.{Bool, true, false, false≢true}
 use mathlib.Core.List.{List}
 use native.Mathlib.Numerals.{add-one}
 use native.Mathlib.Omega.{arith}
 use lib.Dec.{ltb}
 use lib.ListN.{length, getD}
-use borrow.Author.Tests.{lt-ltb, le-ltb, ltb-true, ltb-false, eqb-true, not-false}
+use borrow.Author.Tests.{le-ltb, ltb-true, ltb-false, eqb-true, not-false}
 use Rattle.model.specs.Basics.{_or_, all, before}
 use Rattle.model.specs.Limits.{maxBuckets, maxBins, maxBlocks, maxIntervals}
 use Rattle.model.specs.Table.{Arrays}
@@ -22,7 +21,7 @@ use Rattle.model.specs.Refusal.{
   blocksWrong,
 }
 use Rattle.model.specs.declared.table.Header.{Header}
-use Rattle.model.proofs.Counts.{bit-cases, all-at, all-holds}
+use Rattle.model.proofs.Counts.{bit-cases, all-at}
 use Rattle.model.proofs.Dues.{rises-at}
 use Rattle.model.proofs.Intervals.{Rising}
 use Rattle.model.proofs.Refusals.{or-left, or-right, inside}
@@ -118,19 +117,9 @@ module _ (h : Header) (ends : List ℕ) (w : endsWrong h ends ≡ false) where
 
 -- RULE 14
 
-module _ (h : Header) (blocks : List ℕ) where
-  pub blocks-right : ((i : ℕ) → i < h .«interval_count» → getD blocks i 0 < h .«block_count») → blocksWrong h blocks ≡ false
-  unfolding blocksWrong
-  blocks-right r =
-      ap not
-      (all-holds (λ i. ltb (getD blocks i 0) (h .«block_count»)) (h .«interval_count») (λ i l. lt-ltb _ _ (r i l)))
-
-  pub blocks-fail : (i : ℕ) → i < h .«interval_count» → h .«block_count» ≤ getD blocks i 0 → blocksWrong h blocks ≡ true
-  unfolding blocksWrong
-  blocks-fail i l f =
-      ap not (all-fails (λ i. ltb (getD blocks i 0) (h .«block_count»)) (h .«interval_count») i l (le-ltb _ _ f))
-
-  pub blocks-below : blocksWrong h blocks ≡ false → (i : ℕ) → i < h .«interval_count» → getD blocks i 0 < h .«block_count»
-  unfolding blocksWrong
-  blocks-below w i l =
-      ltb-true _ _ (all-at (λ i. ltb (getD blocks i 0) (h .«block_count»)) (h .«interval_count») (not-false _ w) i l)
+pub blocks-below
+    : (h : Header) (blocks : List ℕ) → blocksWrong h blocks ≡ false
+    → (i : ℕ) → i < h .«interval_count» → getD blocks i 0 < h .«block_count»
+unfolding blocksWrong
+blocks-below h blocks w i l =
+    ltb-true _ _ (all-at (λ i. ltb (getD blocks i 0) (h .«block_count»)) (h .«interval_count») (not-false _ w) i l)

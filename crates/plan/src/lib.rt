@@ -1,8 +1,9 @@
 // What a growth asks for and does, on a sound table: its refusals, the dues after it, and the plan for an interval.
 ghost use Prim.Native.Nat.{ℕ, _<_, _≤_};
 ghost use mathlib.Core.Path.{_≡_};
-ghost use lib.ListN.{length, getD, take};
+ghost use lib.ListN.{length, getD, take, replicate};
 ghost use Rattle.model.specs.Basics.{before as entryBefore};
+ghost use Rattle.model.specs.Limits.{maxBlocks};
 ghost use Rattle.model.specs.Table.{interval};
 ghost use Rattle.model.specs.Due.{dueOfBlock};
 ghost use Rattle.model.specs.Refusal.{first};
@@ -88,15 +89,16 @@ pub fn blocks_after(
     h.block_count
 }
 
-// What each of the first `count` blocks is due in a map of the given sizes; 0 past them.
-fn block_dues(tops: &[u32], count: usize, buckets: u32, bins: u32) -> [u32; 65]
+// What each of the first `count` blocks is due in a map of the given sizes, written over zeros.
+fn block_dues(tops: &[u32], count: usize, buckets: u32, bins: u32, dues: &mut [u32; 65])
     requires { ⌜ TopsWithin (now tops) count bins ⌝ }
-    ensures { λ r.
-        ⌜ ((j : ℕ) → j < 65 → getD r j 0 ≡ dueOfBlock (sizesOf buckets bins) (take count (now (tops .entry))) j) ⌝ }
+    requires { ⌜ now dues ≡ replicate maxBlocks 0 ⌝ }
+    ensures cells { λ _. ⌜ length (now (dues .exit)) ≡ maxBlocks ⌝ }
+    ensures due { λ _.
+        ⌜ ((j : ℕ) → j < 65 → getD (now (dues .exit)) j 0 ≡ dueOfBlock (sizesOf buckets bins) (take count (now (tops .entry))) j) ⌝ }
 {
     let quotient = buckets / bins;
     let remainder = buckets % bins;
-    let mut dues = [0u32; 65];
     let mut below: u32 = 0;
     let mut j: usize = 0;
     while j < count {
@@ -105,26 +107,31 @@ fn block_dues(tops: &[u32], count: usize, buckets: u32, bins: u32) -> [u32; 65]
         below = through;
         j += 1;
     }
-    dues
 }
 
-// What each block has: a block of a sound table has its due.
+// What each block has, written over zeros: a block of a sound table has its due.
 pub fn dues_before(
     h: Header,
     tops: &[u32],
     ends: &[u32],
     blocks: &[u32],
     adjustments: &[u32],
-) -> [u32; 65]
+    olds: &mut [u32; 65],
+)
     requires { ⌜ LentSound h (now tops) (now ends) (now blocks) (now adjustments) ⌝ }
-    ensures { λ r.
-        ⌜ DuesBefore (lent h (now (tops .entry)) (now (ends .entry)) (now (blocks .entry)) (now (adjustments .entry))) r ⌝ }
+    requires { ⌜ now olds ≡ replicate maxBlocks 0 ⌝ }
+    ensures { λ _.
+        ⌜
+        DuesBefore
+        (lent h (now (tops .entry)) (now (ends .entry)) (now (blocks .entry)) (now (adjustments .entry)))
+        (now (olds .exit))
+        ⌝ }
 {
     let bins = bin_count(h, tops, ends, blocks, adjustments);
-    block_dues(tops, h.block_count as usize, h.buckets, bins)
+    block_dues(tops, h.block_count as usize, h.buckets, bins, olds);
 }
 
-// What each block is due after the growth: the new one what the old bins leave.
+// What each block is due after the growth, written over zeros: the new one what the old bins leave.
 pub fn dues_after(
     h: Header,
     tops: &[u32],
@@ -133,23 +140,24 @@ pub fn dues_after(
     adjustments: &[u32],
     buckets: u32,
     bins: u32,
-) -> [u32; 65]
+    dues: &mut [u32; 65],
+)
     requires { ⌜ LentSound h (now tops) (now ends) (now blocks) (now adjustments) ⌝ }
     requires { ⌜ first (growthTests (lent h (now tops) (now ends) (now blocks) (now adjustments)) (sizesOf buckets bins)) ≡ 0 ⌝ }
-    ensures { λ r.
+    requires { ⌜ now dues ≡ replicate maxBlocks 0 ⌝ }
+    ensures { λ _.
         ⌜
         DuesAfter
         (lent h (now (tops .entry)) (now (ends .entry)) (now (blocks .entry)) (now (adjustments .entry)))
         (sizesOf buckets bins)
-        r
+        (now (dues .exit))
         ⌝ }
 {
     let old = bin_count(h, tops, ends, blocks, adjustments);
-    let mut dues = block_dues(tops, h.block_count as usize, buckets, bins);
+    block_dues(tops, h.block_count as usize, buckets, bins, dues);
     if old < bins {
         dues[h.block_count as usize] = buckets - due_below(buckets / bins, buckets % bins, old);
     }
-    dues
 }
 
 // Whether some old block is due less than it has, from the dues before and after the growth.

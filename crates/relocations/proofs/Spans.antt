@@ -3,7 +3,7 @@ use Prim.Native.Nat.{ℕ, suc, _+_, _-_, _*_, _/_, _%_, _^_, min, _≤_, _<_}
 use mathlib.Core.Path.{_≡_, refl, sym, _∙_, ap, ap₂}
 use mathlib.Core.Logic.{⊎-elim}
 use mathlib.Core.List.{List, [], _∷_, _++_, append-nil, append-assoc}
-use native.Mathlib.Nat.{mul-add-mod-self-right, mod-eq-of-lt, mul-add-div-right, div-eq-of-lt, add-zero}
+use native.Mathlib.Nat.{mul-add-mod-self-right, mod-eq-of-lt, mul-add-div-right, div-eq-of-lt, add-zero, le-mul-of-pos-right}
 use native.Mathlib.Omega.{arith}
 use lib.ListN.{length, take, drop, length-append, length-drop, take-append-drop}
 use lib.Seq.{sets, sets-eq, length-take-le, take-at, drop-append-add, drop-drop}
@@ -14,40 +14,61 @@ use Rattle.model.proofs.Counts.{below-or}
 use Rattle.model.proofs.Tables.{length-from, from-append, length-over}
 use Rattle.model.proofs.Rows.{joined-append}
 use Rattle.model.proofs.Pages.{Fives, fives-length, fives-page, fives-from, page-length, page-none, page-append, page-from}
-use Rattle.relocations.specs.Spans.{placedRow, withRows, paged, Places, Slotted}
+use Rattle.relocations.specs.Spans.{placedRow, withRows, paged, Places, Slotted, Steps}
 use Rattle.relocations.specs.declared.Placing.{Placing}
 use Rattle.relocations.specs.declared.Slot.{Slot}
 
 -- SLOTS
 
-module _ (d rank : ℕ) (s : Slot) (h : Slotted d rank s) where
-  slot-bin : s .bin ≡ rank % d
+module _ (f d rank : ℕ) (s : Slot) (h : Slotted f d rank s) where
+  -- the bin counted from the block's first
+  slot-counted : s .position * d + (s .bin - f) ≡ rank
+  slot-counted = omega (arith, h .after, h .whole)
+
+  slot-below : s .bin - f < d
+  slot-below = omega (arith, h .after, h .within)
+
+  slot-bin : s .bin ≡ f + rank % d
   slot-bin =
-      sym (ap (λ r. r % d) (sym (h .whole)) ∙ mul-add-mod-self-right (s .position) d (s .bin) ∙ mod-eq-of-lt (h .within))
+      omega (
+        arith,
+        h .after,
+        ap (λ r. r % d) slot-counted,
+        mul-add-mod-self-right (s .position) d (s .bin - f),
+        mod-eq-of-lt slot-below,
+      )
 
   slot-position : s .position ≡ rank / d
   slot-position =
       omega (
         arith,
-        ap (λ r. r / d) (h .whole),
-        mul-add-div-right {m = d} (omega (arith, h .within)) (s .position) (s .bin),
-        div-eq-of-lt (h .within),
+        ap (λ r. r / d) slot-counted,
+        mul-add-div-right {m = d} (omega (arith, slot-below)) (s .position) (s .bin - f),
+        div-eq-of-lt slot-below,
       )
 
--- the slot of a bucket below another has a next one
+-- the slot of a bucket below another has a next position
 pub slot-next
-    : (d x adjustment end : ℕ) (s : Slot) → Slotted d (x - adjustment) s → x < end → end < 2 ^ 32
-    → (s .bin < d) × (s .position * d + s .bin + 1 < 2 ^ 32)
-slot-next d x adjustment end s h l fits = (h .within, omega (arith, h .whole))
+    : (f d x adjustment end : ℕ) (s : Slot) → 1 ≤ d → Slotted f d (x - adjustment) s → x < end → end < 2 ^ 32
+    → s .position + 1 < 2 ^ 32
+slot-next f d x adjustment end s some h l fits =
+    omega (arith, h .after, h .whole, le-mul-of-pos-right {m = d} (s .position) some)
+
+slot-stepped
+    : (f d x adjustment : ℕ) (s s′ : Slot) → 1 ≤ d → adjustment ≤ x → Slotted f d (x - adjustment) s → Steps f (f + d - 1) s s′
+    → Slotted f d (x + 1 - adjustment) s′
+slot-stepped f d x adjustment s s′ some low h step =
+    let next : x - adjustment + 1 ≡ x + 1 - adjustment = omega arith in
+    rw next at (step d (x - adjustment) (omega arith) h)
 
 -- the row of a bucket from its two slots
 pub row-slots
     : (old new : Placing) (x : ℕ) (s s′ : Slot)
-    → Slotted (old .bins) (x - old .adjustment) s → Slotted (new .bins) (x - new .adjustment) s′
-    → x ∷ (old .first + s .bin) ∷ s .position ∷ (new .first + s′ .bin) ∷ s′ .position ∷ [] ≡ placedRow old new x
+    → Slotted (old .first) (old .bins) (x - old .adjustment) s → Slotted (new .first) (new .bins) (x - new .adjustment) s′
+    → x ∷ s .bin ∷ s .position ∷ s′ .bin ∷ s′ .position ∷ [] ≡ placedRow old new x
 unfolding placedRow
 row-slots old new x s s′ h h′ =
-    rw (slot-bin _ _ s h, slot-position _ _ s h, slot-bin _ _ s′ h′, slot-position _ _ s′ h′)
+    rw (slot-bin _ _ _ s h, slot-position _ _ _ s h, slot-bin _ _ _ s′ h′, slot-position _ _ _ s′ h′)
 
 -- what places a bucket places the later ones
 pub places-more : (p : Placing) (x n : ℕ) → Places p x → Places p (x + n)
@@ -127,6 +148,13 @@ behind rs ss k old f g e =
     ∙ drop-drop (length (joined ss)) (length P) old
     ∙ ap (λ n. drop n old) last)
 
+-- a page that some rows fill has none of those behind them
+pub page-full
+    : (q n : ℕ) (rs ss : List (List ℕ)) → n / 5 ≤ length rs - q → page q n rs ≡ page q n (rs ++ ss)
+page-full q n rs ss l =
+    let none = page-none (q - length rs) (n - 5 * (length rs - q)) ss (omega arith) in
+    sym (page-append q n rs ss ∙ ap (λ b. page q n rs ++ b) none ∙ append-nil (page q n rs))
+
 -- a page of some rows, and then what is left of it of the rows behind them
 page-filled
     : (q : ℕ) (rs ss : List (List ℕ)) (old : List ℕ) → Fives rs → Fives ss
@@ -135,17 +163,16 @@ page-filled
 page-filled q rs ss old f g =
     let A = page q (length old) rs in
     let B = page (q - length rs) (length old - 5 * (length rs - q)) ss in
-    let both = page-append q (length old) rs ss in
     ⊎-elim
     (λ l.
     let none : B ≡ [] = page-none (q - length rs) _ ss (omega arith) in
     ap (λ b. withRows (length rs - q) b (over (joined A) old)) none
     ∙ with-none (length rs - q) (over (joined A) old)
-    ∙ ap (λ l. over (joined l) old) (sym (append-nil A) ∙ ap (λ b. A ++ b) (sym none) ∙ sym both))
+    ∙ ap (λ l. over (joined l) old) (page-full q (length old) rs ss (omega arith)))
     (λ l.
     behind A B (length rs - q) old (fives-page q (length old) rs f) (fives-page _ _ ss g)
     (omega (arith, page-length q (length old) rs))
-    ∙ ap (λ l. over (joined l) old) (sym both))
+    ∙ ap (λ l. over (joined l) old) (sym (page-append q (length old) rs ss)))
     (below-or (length old / 5) (length rs - q))
 
 -- a page over a buffer is as long as the buffer
@@ -230,8 +257,8 @@ pub record Spanning
     (old new : Placing) (bucket end at : ℕ) (rows₀ rows : List ℕ) (here there : Slot) (x entry : ℕ) : Type 0 where
   pub after : bucket ≤ x
   pub within : x ≤ end
-  pub oldSlot : Slotted (old .bins) (x - old .adjustment) here
-  pub newSlot : Slotted (new .bins) (x - new .adjustment) there
+  pub oldSlot : Slotted (old .first) (old .bins) (x - old .adjustment) here
+  pub newSlot : Slotted (new .first) (new .bins) (x - new .adjustment) there
   pub entries : entry ≡ 5 * (at + (x - bucket))
   pub filled : rows ≡ withRows at (from (placedRow old new) bucket (x - bucket)) rows₀
 
@@ -241,8 +268,8 @@ five-numbers old new x = refl
 
 module _ (old new : Placing) (bucket end at : ℕ) (rows₀ : List ℕ) (fits : 5 * (at + (end - bucket)) ≤ length rows₀) where
   pub spanning-starts
-      : (here there : Slot) → bucket ≤ end → Slotted (old .bins) (bucket - old .adjustment) here
-      → Slotted (new .bins) (bucket - new .adjustment) there
+      : (here there : Slot) → bucket ≤ end → Slotted (old .first) (old .bins) (bucket - old .adjustment) here
+      → Slotted (new .first) (new .bins) (bucket - new .adjustment) there
       → Spanning old new bucket end at rows₀ rows₀ here there bucket (5 * at)
   unfolding from
   spanning-starts here there le h h′ =
@@ -272,10 +299,9 @@ module _ (old new : Placing) (bucket end at : ℕ) (rows₀ : List ℕ) (fits : 
 
     -- the next row
     pub spanning-more
-        : (rows′ : List ℕ) (here′ there′ : Slot) → x < end → old .adjustment ≤ bucket → new .adjustment ≤ bucket
-        → rows′ ≡ sets rows entry (x ∷ (old .first + here .bin) ∷ here .position ∷ (new .first + there .bin) ∷ there .position ∷ [])
-        → Slotted (old .bins) (here .position * old .bins + here .bin + 1) here′
-        → Slotted (new .bins) (there .position * new .bins + there .bin + 1) there′
+        : (rows′ : List ℕ) (here′ there′ : Slot) → x < end → Places old bucket → Places new bucket
+        → rows′ ≡ sets rows entry (x ∷ here .bin ∷ here .position ∷ there .bin ∷ there .position ∷ [])
+        → Steps (old .first) (old .first + old .bins - 1) here here′ → Steps (new .first) (new .first + new .bins - 1) there there′
         → Spanning old new bucket end at rows₀ rows′ here′ there′ (x + 1) (entry + 5)
     unfolding from
     spanning-more rows′ here′ there′ l o n e h h′ =
@@ -284,13 +310,13 @@ module _ (old new : Placing) (bucket end at : ℕ) (rows₀ : List ℕ) (fits : 
         let next : x + 1 - bucket ≡ x - bucket + 1 = omega (arith, s .after) in
         let this : bucket + (x - bucket) ≡ x = omega (arith, s .after) in
         let here-entry : entry ≡ 5 * (at + length rs) = omega (arith, s .entries) in
-        let older : here .position * old .bins + here .bin + 1 ≡ x + 1 - old .adjustment = omega (arith, s .oldSlot .whole, s .after) in
-        let newer : there .position * new .bins + there .bin + 1 ≡ x + 1 - new .adjustment = omega (arith, s .newSlot .whole, s .after) in
         record {
           after = omega (arith, s .after);
           within = omega arith;
-          oldSlot = rw older at h;
-          newSlot = rw newer at h′;
+          oldSlot =
+              slot-stepped (old .first) (old .bins) x (old .adjustment) here here′ (o .some) (omega (arith, o .ranked, s .after)) (s .oldSlot) h;
+          newSlot =
+              slot-stepped (new .first) (new .bins) x (new .adjustment) there there′ (n .some) (omega (arith, n .ranked, s .after)) (s .newSlot) h′;
           entries = omega (arith, s .entries, s .after);
           filled =
               e

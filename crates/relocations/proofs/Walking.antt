@@ -26,11 +26,11 @@ use Rattle.model.proofs.Listed.{size-most}
 use Rattle.model.proofs.Wells.{adjustment-most, sound-well}
 use Rattle.model.proofs.Growths.{accepted, some-more}
 use Rattle.model.proofs.Drained.{drainedBlock, plan-stay, plan-move, plan-split}
-use Rattle.model.proofs.Rows.{rows-least, rowsBelow, rowsBefore, lentFirst, lentBins, Cut, end-within, rows-size, part-rows, part-row}
+use Rattle.model.proofs.Rows.{rows-least, rowsBelow, rows-more, rowsBefore, lentFirst, lentBins, Cut, end-within, rows-size, part-rows, part-row}
 use Rattle.model.proofs.Pages.{Fives, fives-from, fives-rows, page-past}
 use Rattle.relocations.specs.Spans.{placing, placedRow, partRows, paged, Part, Acts}
 use Rattle.relocations.specs.declared.Placing.{Placing}
-use Rattle.relocations.proofs.Spans.{page-fits, paged-behind, five-numbers}
+use Rattle.relocations.proofs.Spans.{page-full, page-fits, paged-behind, five-numbers}
 
 -- HOW MANY ROWS
 
@@ -265,6 +265,22 @@ module _
           let last : start ≡ h .buckets = omega (arith, v .starts, v .within, sound .lastEnd, ap (before (a .ends)) (at-end l)) in
           v .filled
           ∙ ap (λ m. over (joined (page q (length rows₀) (rowsBelow (table h a) (expanded (table h a) s) m))) rows₀) last
+
+      -- at an interval where the page is full
+      pub walking-full
+          : i < h .«interval_count» → length rows₀ / 5 ≤ moved - q
+          → rows ≡ over (joined (page q (length rows₀) (Relocations.rows (table h a) (expanded (table h a) s)))) rows₀
+      unfolding Relocations.rows table
+      walking-full l full =
+          let t = table h a in
+          let u = expanded t s in
+          let whole : start + (h .buckets - start) ≡ h .buckets =
+          omega (arith, v .starts, sound .endsRise i l, end-within h a sound i l) in
+          let count : moved ≡ length (rowsBelow t u start) = v .counted ∙ ap (λ m. length (rowsBelow t u m)) (sym (v .starts)) in
+          v .filled
+          ∙ ap (λ rs. over (joined rs) rows₀)
+          (page-full q (length rows₀) (rowsBelow t u start) _ (omega arith)
+          ∙ ap (page q (length rows₀)) (sym (rows-more t u start (h .buckets - start)) ∙ ap (rowsBelow t u) whole))
 
       -- interval i, with its plan, its placing and the old number of bins as the code has them
       module _

@@ -43,10 +43,15 @@ pub record Places (p : Placing) (x : ℕ) : Type 0 where
   pub fits : p .first + p .bins < 2 ^ 32
   pub ranked : p .adjustment ≤ x
 
--- the slot of a rank in a block of d bins
-pub record Slotted (d rank : ℕ) (s : Slot) : Type 0 where
-  pub within : s .bin < d
-  pub whole : s .position * d + s .bin ≡ rank
+-- the slot of a rank in a block of d bins from f on
+pub record Slotted (f d rank : ℕ) (s : Slot) : Type 0 where
+  pub after : f ≤ s .bin
+  pub within : s .bin < f + d
+  pub whole : s .position * d + s .bin ≡ f + rank
+
+-- from the slot of a rank to that of the next, in a block of the bins from f to l
+abbrev pub Steps : ℕ → ℕ → Slot → Slot → Type 0
+Steps f l s s′ = (d rank : ℕ) → l + 1 ≡ f + d → Slotted f d rank s → Slotted f d (rank + 1) s′
 
 -- buckets from p up to e that move, of which w have moved before
 pub record Part (old new : Placing) (p e w : ℕ) : Type 0 where

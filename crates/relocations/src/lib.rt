@@ -14,7 +14,7 @@ ghost use Rattle.model.specs.Calls.{growthTests};
 ghost use Rattle.model.specs.Console.{sizes as sizesOf};
 ghost use Rattle.model.specs.Lent.{lent, LentSound};
 ghost use Rattle.plan.specs.Shares.{DuesAfter};
-ghost use Rattle.relocations.specs.Spans.{placing, placedRow, withRows, partRows, paged, Places, Slotted, Part, Acts};
+ghost use Rattle.relocations.specs.Spans.{placing, placedRow, withRows, partRows, paged, Places, Slotted, Steps, Part, Acts};
 use model::plan::Action;
 use model::table::Header;
 use plan::dues_after;
@@ -30,7 +30,7 @@ pub struct Placing {
     pub adjustment: u32,
 }
 
-// A place in a block: the bin, counted from the block's first, and the position.
+// A place: the bin and the position.
 pub struct Slot {
     pub bin: u32,
     pub position: u32,
@@ -39,29 +39,29 @@ pub struct Slot {
 // The slot of a bucket.
 fn slot_of(placing: Placing, bucket: u32) -> Slot
     requires { ⌜ Places placing bucket ⌝ }
-    ensures { λ r. ⌜ Slotted (placing .bins) (bucket - placing .adjustment) r ⌝ }
+    ensures { λ r. ⌜ Slotted (placing .first) (placing .bins) (bucket - placing .adjustment) r ⌝ }
 {
     let rank = bucket - placing.adjustment;
     Slot {
-        bin: rank % placing.bins,
+        bin: placing.first + rank % placing.bins,
         position: rank / placing.bins,
     }
 }
 
-// The slot of the next rank: the next bin, and past the last bin the first one, a position higher.
-fn next_slot(bins: u32, slot: Slot) -> Slot
-    requires { ⌜ (slot .bin < bins) × (slot .position * bins + slot .bin + 1 < 2 ^ 32) ⌝ }
-    ensures { λ r. ⌜ Slotted bins (slot .position * bins + slot .bin + 1) r ⌝ }
+// The slot of the next rank, in a block whose bins go from `first` to `last`: the next bin, and past the last one the first, a
+// position higher.
+fn next_slot(first: u32, last: u32, slot: Slot) -> Slot
+    requires { ⌜ slot .position + 1 < 2 ^ 32 ⌝ }
+    ensures { λ r. ⌜ Steps first last slot r ⌝ }
 {
-    let bin = slot.bin + 1;
-    if bin < bins {
+    if slot.bin < last {
         return Slot {
-            bin,
+            bin: slot.bin + 1,
             position: slot.position,
         };
     }
     Slot {
-        bin: 0,
+        bin: first,
         position: slot.position + 1,
     }
 }
@@ -97,6 +97,8 @@ fn write_span(old: Placing, new: Placing, bucket: u32, end: u32, at: usize, rows
     ensures { λ _.
         ⌜ now (rows .exit) ≡ withRows at (from (placedRow old new) bucket (end - bucket)) (now (rows .entry)) ⌝ }
 {
+    let old_last = old.first + old.bins - 1;
+    let new_last = new.first + new.bins - 1;
     let mut here = slot_of(old, bucket);
     let mut there = slot_of(new, bucket);
     let mut x = bucket;
@@ -106,13 +108,13 @@ fn write_span(old: Placing, new: Placing, bucket: u32, end: u32, at: usize, rows
             rows,
             entry,
             x,
-            old.first + here.bin,
+            here.bin,
             here.position,
-            new.first + there.bin,
+            there.bin,
             there.position,
         );
-        here = next_slot(old.bins, here);
-        there = next_slot(new.bins, there);
+        here = next_slot(old.first, old_last, here);
+        there = next_slot(new.first, new_last, there);
         x += 1;
         entry += 5;
     }
@@ -214,7 +216,7 @@ fn placing_of(tops: &[u32], block: usize, adjustment: u32) -> Placing
 }
 
 // The page from order number `first` on, where some old block is due less than it has: the old intervals from the left, of which
-// each that moves or splits has rows.
+// each that moves or splits has rows, as long as the page is not full.
 fn write_moved(
     h: Header,
     tops: &[u32],
@@ -246,10 +248,14 @@ fn write_moved(
         ⌝ }
 {
     let old_bins = bin_count(h, tops, ends, blocks, adjustments);
+    let room = rows.len() / 5;
     let mut i: usize = 0;
     let mut start: u32 = 0;
     let mut moved: u32 = 0;
     while i < h.interval_count as usize {
+        if room <= excess(moved, first) as usize {
+            return;
+        }
         let plan = plan_at(
             h,
             tops,
@@ -365,7 +371,8 @@ pub fn write_relocations(
     if first == total {
         return 0;
     }
-    let dues = dues_after(h, tops, ends, blocks, adjustments, buckets, bins);
+    let mut dues = [0u32; 65];
+    dues_after(h, tops, ends, blocks, adjustments, buckets, bins, &mut dues);
     write_moved(
         h,
         tops,

@@ -2,11 +2,10 @@
 use model::table::Header;
 use table::due_below;
 ghost use mathlib.Core.Path.{_≡_};
-ghost use mathlib.Core.List.{[]};
-ghost use Prim.Native.Nat.{ℕ, _+_, _≤_, _<_};
-ghost use lib.ListN.{length, getD};
-ghost use Rattle.model.specs.Table.{arrays, table};
-ghost use Rattle.model.specs.Place.{held};
+ghost use mathlib.Core.List.{List, []};
+ghost use Prim.Native.Nat.{ℕ, _≤_};
+ghost use lib.ListN.{length, replicate};
+ghost use Rattle.model.specs.Table.{arrays};
 ghost use Rattle.model.specs.Refusal.{
   outside,
   rises,
@@ -20,7 +19,7 @@ ghost use Rattle.model.specs.Refusal.{
   first,
 };
 ghost use Rattle.model.specs.Calls.{tableTests};
-ghost use Rattle.soundness.specs.Passed.{TopsRight, IntervalsRight};
+ghost use Rattle.soundness.specs.Passed.{TopsRight, IntervalsRight, Held};
 
 // Whether x is 0 or above its limit.
 fn is_outside(limit: u32, x: u32) -> bool
@@ -73,17 +72,18 @@ pub fn rising(xs: &[u32], n: usize) -> bool
     requires { ⌜ n ≤ length (now xs) ⌝ }
     ensures { λ r. ⌜ r ≡ rises (now (xs .entry)) n ⌝ }
 {
+    let mut ok = true;
     let mut last: u32 = 0;
     let mut i: usize = 0;
     while i < n {
         let x = xs[i];
         if x <= last {
-            return false;
+            ok = false;
         }
         last = x;
         i += 1;
     }
-    true
+    ok
 }
 
 // 12: tops that don't rise strictly, a first top of 0, a last top above its limit or above B.
@@ -119,40 +119,55 @@ pub fn blocks_wrong(h: Header, blocks: &[u32]) -> bool
     requires { ⌜ h .«interval_count» ≤ length (now blocks) ⌝ }
     ensures { λ r. ⌜ r ≡ blocksWrong h (now (blocks .entry)) ⌝ }
 {
+    let mut wrong = false;
     let mut i: usize = 0;
     while i < h.interval_count as usize {
         if h.block_count <= blocks[i] {
-            return true;
+            wrong = true;
         }
         i += 1;
     }
-    false
+    wrong
 }
 
-// How many buckets each block holds.
-fn holdings(h: Header, ends: &[u32], blocks: &[u32]) -> [u32; 65]
-    requires { ⌜ IntervalsRight h (now ends) (now blocks) ⌝ }
-    ensures { λ r. ⌜ ((j : ℕ) → j < 65 → getD r j 0 ≡ held (table h (arrays [] (now (ends .entry)) (now (blocks .entry)) [])) j (h .buckets)) ⌝ }
+// Walks the intervals once: sums how many buckets each block holds, and says whether the table breaks 16: a wrong
+// adjustment. Right is the interval's start less what its block holds before it.
+fn walked(
+    h: Header,
+    ends: &[u32],
+    blocks: &[u32],
+    adjustments: &[u32],
+    sums: &mut [u32; 65],
+) -> bool
+    requires { ⌜ (IntervalsRight h (now ends) (now blocks))
+        × (h .«interval_count» ≤ length (now adjustments))
+        × (now sums ≡ replicate 65 0) ⌝ }
+    ensures { λ r. ⌜ (Held h (now (ends .entry)) (now (blocks .entry)) (now (sums .exit)))
+        × (r ≡ adjustmentsWrong h (arrays [] (now (ends .entry)) (now (blocks .entry)) (now (adjustments .entry)))) ⌝ }
 {
-    let mut sums = [0u32; 65];
+    let mut wrong = false;
     let mut start: u32 = 0;
     let mut i: usize = 0;
     while i < h.interval_count as usize {
         let end = ends[i];
         let block = blocks[i] as usize;
-        sums[block] += end - start;
+        let sum = sums[block];
+        if adjustments[i] != start - sum {
+            wrong = true;
+        }
+        sums[block] = sum + (end - start);
         start = end;
         i += 1;
     }
-    sums
+    wrong
 }
 
-// 15: a block whose intervals hold another number than its due.
-pub fn holdings_wrong(h: Header, tops: &[u32], ends: &[u32], blocks: &[u32]) -> bool
-    requires { ⌜ (TopsRight h (now tops)) × (IntervalsRight h (now ends) (now blocks)) ⌝ }
-    ensures { λ r. ⌜ r ≡ holdingsWrong h (arrays (now (tops .entry)) (now (ends .entry)) (now (blocks .entry)) []) ⌝ }
+// 15: a block whose intervals hold another number than its due. `sums` is what each block holds.
+fn holdings_wrong(h: Header, tops: &[u32], sums: &[u32; 65]) -> bool
+    requires { ⌜ TopsRight h (now tops) ⌝ }
+    ensures { λ r. ⌜ ((ends blocks : List ℕ) → Held h ends blocks (now (sums .entry))
+        → r ≡ holdingsWrong h (arrays (now (tops .entry)) ends blocks [])) ⌝ }
 {
-    let sums = holdings(h, ends, blocks);
     let bins = tops[h.block_count as usize - 1];
     let quotient = h.buckets / bins;
     let remainder = h.buckets % bins;
@@ -165,27 +180,6 @@ pub fn holdings_wrong(h: Header, tops: &[u32], ends: &[u32], blocks: &[u32]) -> 
         }
         below = through;
         j += 1;
-    }
-    false
-}
-
-// 16: a wrong adjustment. Right is the interval's start less what its block holds before it.
-pub fn adjustments_wrong(h: Header, ends: &[u32], blocks: &[u32], adjustments: &[u32]) -> bool
-    requires { ⌜ (IntervalsRight h (now ends) (now blocks)) × (h .«interval_count» ≤ length (now adjustments)) ⌝ }
-    ensures { λ r. ⌜ r ≡ adjustmentsWrong h (arrays [] (now (ends .entry)) (now (blocks .entry)) (now (adjustments .entry))) ⌝ }
-{
-    let mut sums = [0u32; 65];
-    let mut start: u32 = 0;
-    let mut i: usize = 0;
-    while i < h.interval_count as usize {
-        let end = ends[i];
-        let block = blocks[i] as usize;
-        if adjustments[i] != start - sums[block] {
-            return true;
-        }
-        sums[block] += end - start;
-        start = end;
-        i += 1;
     }
     false
 }
@@ -209,10 +203,12 @@ pub fn check(h: Header, tops: &[u32], ends: &[u32], blocks: &[u32], adjustments:
     if blocks_wrong(h, blocks) {
         return 14;
     }
-    if holdings_wrong(h, tops, ends, blocks) {
+    let mut sums = [0u32; 65];
+    let wrong = walked(h, ends, blocks, adjustments, &mut sums);
+    if holdings_wrong(h, tops, &sums) {
         return 15;
     }
-    if adjustments_wrong(h, ends, blocks, adjustments) {
+    if wrong {
         return 16;
     }
     0

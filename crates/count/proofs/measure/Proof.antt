@@ -17,12 +17,6 @@ t s = lent (s .args .h) (s .args .tops .now) (s .args .ends .now) (s .args .bloc
 abbrev z : tie.Start → Shape
 z s = sizes (s .args .buckets) (s .args .bins)
 
-dues-before-requires : tie.Need-dues-before-requires
-dues-before-requires c κs = search needs
-
-dues-after-requires : tie.Need-dues-after-requires
-dues-after-requires c κs = search needs
-
 some-fall-requires : tie.Need-some-fall-requires
 some-fall-requires c κs = search needs
 
@@ -31,32 +25,31 @@ count-drained-requires c κs = search needs
 
 returns : tie.Need-returns
 returns c =
-    let start = c .before .before .before .before .before .before .before .before .before .before .before .before in
-    let falls = sym (c .before .before .before .some-fall .ensures) ∙ c .before .before .if1 .taken in
-    let (sound, asked) = start .pre in (
+    let falls = sym (c .before .before .some-fall .ensures) ∙ c .before .if1 .taken in
+    let (sound, (asked, dues)) = c .before .before .before .before .before .before .before .pre in (
       c .count-drained .ensures .0 ∙ sym (drained-count _ _ _ sound asked falls),
       c .count-drained .ensures .1 ∙ drained-moves _ _ _ sound asked falls,
     )
 
 count-pieces-requires : tie.Need-count-pieces-requires
 count-pieces-requires c κs =
-    let start = c .before .before .before .before .before .before .before .before .before .before .before .before in
+    let (sound, (asked, (olds, dues))) = c .before .before .before .before .before .before .pre in
     record {
-      sound = start .pre .0;
-      asked = start .pre .1;
-      before = c .before .before .before .before .before .before .before .dues-before .ensures;
-      after = c .before .before .before .before .before .before .dues-after .ensures;
-      none = sym (c .before .before .before .some-fall .ensures) ∙ c .before .before .if1 .left;
+      sound = sound;
+      asked = asked;
+      before = olds;
+      after = dues;
+      none = sym (c .before .some-fall .ensures) ∙ c .if1 .left;
     }
 
-add-t18 : tie.Need-add-t18
-add-t18 c = omega (arith, c .before .count-pieces .ensures .0, c .before .before .before .before .before .before .before .before .before .before .before .before .before .before .pre .0 .intervalLimit)
+add-t12 : tie.Need-add-t12
+add-t12 c = search needs
 
 returns-2 : tie.Need-returns-2
 returns-2 c =
-    let start = c .before .before .before .before .before .before .before .before .before .before .before .before .before .before in
-    let none = sym (c .before .before .before .before .before .some-fall .ensures) ∙ c .before .before .before .before .if1 .left in
-    let (sound, asked) = start .pre in (
+    let start = c .before .before .before .before .before .before .before .before in
+    let none = sym (c .before .before .before .some-fall .ensures) ∙ c .before .before .if1 .left in
+    let (sound, (asked, dues)) = start .pre in (
       omega (arith, c .before .count-pieces .ensures .1 (lengthTo (t start) (z start)), filled-count _ _ _ sound asked none),
       filled-moves _ _ _ sound asked none,
     )
@@ -65,11 +58,9 @@ pub measure-spec : {M : Type 1} → statement M
 measure-spec =
     tie.close
     (tie.spec
-    dues-before-requires
-    dues-after-requires
     some-fall-requires
     count-drained-requires
     returns
     count-pieces-requires
-    add-t18
+    add-t12
     returns-2)

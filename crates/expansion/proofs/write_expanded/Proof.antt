@@ -24,8 +24,8 @@ room
     : (s : tie.Start)
     → Room (length (expanded (t s) (z s) .intervals)) (s .args .new-ends .now) (s .args .new-blocks .now) (s .args .new-adjustments .now)
 room s =
-    let r = roomy _ (s .pre .1 .1 .0) in
-    let few = s .pre .1 .1 .1 in
+    let (_, (_, (_, (_, (room-lent, few))))) = s .pre in
+    let r = roomy _ room-lent in
     record {
       ends = omega (arith, r .ends);
       blocks = omega (arith, r .blocks);
@@ -35,10 +35,14 @@ room s =
 write-tops-requires : tie.Need-write-tops-requires
 write-tops-requires c κs =
     let start = c .before .before .before .before .before .before .before .before .before in
-    (start .pre .0, (start .pre .1 .0, roomy _ (start .pre .1 .1 .0) .tops))
+    let (sound, (asked, (_, (_, (room-lent, _))))) = start .pre in
+    (sound, (asked, roomy _ room-lent .tops))
 
 write-intervals-requires : tie.Need-write-intervals-requires
-write-intervals-requires c κs = let start = c .before .before .before .before .before .before .before .before .before .before .before .before .before .before .before in (start .pre .0, (start .pre .1 .0, room start))
+write-intervals-requires c κs =
+    let start = c .before .before .before .before .before .before .before .before .before .before .before .before .before .before .before in
+    let (sound, (asked, (olds, (dues, _)))) = start .pre in
+    (sound, (asked, (olds, (dues, room start))))
 
 same-length : tie.Need-same-length
 same-length c = search needs

@@ -16,23 +16,14 @@ t s = lent (s .args .h) (s .args .tops .now) (s .args .ends .now) (s .args .bloc
 abbrev z : tie.Start → Shape
 z s = sizes (s .args .buckets) (s .args .bins)
 
-dues-before-requires : tie.Need-dues-before-requires
-dues-before-requires c κs = search needs
-
-dues-after-requires : tie.Need-dues-after-requires
-dues-after-requires c κs = search needs
-
 some-fall-requires : tie.Need-some-fall-requires
 some-fall-requires c κs = search needs
 
 write-drained-requires : tie.Need-write-drained-requires
 write-drained-requires c κs =
-    let start = c .before .before .before .before .before .before .before .before .before .before .before .before .before .before .before .before .before in
-    let (sound, (asked, room)) = start .pre in
-    let falls = sym (c .before .before .before .before .before .some-fall .ensures) ∙ c .before .before .before .before .if1 .taken in (
-      record { sound = sound; asked = asked; after = c .before .before .before .before .before .before .before .before .dues-after .ensures },
-      rw (drained-count _ _ _ sound asked falls) at room,
-    )
+    let (sound, (asked, (olds, (dues, room)))) = c .before .before .before .before .before .before .before .before .before .before .before .before .pre in
+    let falls = sym (c .before .before .before .before .some-fall .ensures) ∙ c .before .before .before .if1 .taken in
+    (record { sound = sound; asked = asked; after = dues }, rw (drained-count _ _ _ sound asked falls) at room)
 
 same-length : tie.Need-same-length
 same-length c = search needs
@@ -45,20 +36,16 @@ same-length-3 c = search needs
 
 returns : tie.Need-returns
 returns c =
-    rw (expanded-drained (t (c .before .before .before .before .before .before .before .before .before .before .before .before .before .before .before .before .before .before .before .before .before .before .before .before)) (z (c .before .before .before .before .before .before .before .before .before .before .before .before .before .before .before .before .before .before .before .before .before .before .before .before)) (sym (c .before .before .before .before .before .before .before .before .before .before .before .before .some-fall .ensures) ∙ c .before .before .before .before .before .before .before .before .before .before .before .if1 .taken)) (c .before .before .before .before .before .before .write-drained .ensures)
+    let start = c .before .before .before .before .before .before .before .before .before .before .before .before .before .before .before .before .before .before .before in
+    let falls = sym (c .before .before .before .before .before .before .before .before .before .before .before .some-fall .ensures) ∙ c .before .before .before .before .before .before .before .before .before .before .if1 .taken in
+    rw (expanded-drained (t start) (z start) falls) (c .before .before .before .before .before .before .write-drained .ensures)
 
 write-filled-requires : tie.Need-write-filled-requires
 write-filled-requires c κs =
-    let start = c .before .before .before .before .before .before .before .before .before .before .before .before .before .before .before .before .before .before in
-    let (sound, (asked, room)) = start .pre in
-    let none = sym (c .before .before .before .before .before .before .some-fall .ensures) ∙ c .before .before .before .before .before .if1 .left in (
-      record {
-        sound = sound;
-        asked = asked;
-        before = c .before .before .before .before .before .before .before .before .before .before .dues-before .ensures;
-        after = c .before .before .before .before .before .before .before .before .before .dues-after .ensures;
-        none = none;
-      },
+    let start = c .before .before .before .before .before .before .before .before .before .before .before .before in
+    let (sound, (asked, (olds, (dues, room)))) = start .pre in
+    let none = sym (c .before .before .before .before .some-fall .ensures) ∙ c .before .before .before .if1 .left in (
+      record { sound = sound; asked = asked; before = olds; after = dues; none = none },
       rw (expanded-filled (t start) (z start) none) at room,
     )
 
@@ -73,14 +60,14 @@ same-length-6 c = search needs
 
 returns-2 : tie.Need-returns-2
 returns-2 c =
-    rw (expanded-filled (t (c .before .before .before .before .before .before .before .before .before .before .before .before .before .before .before .before .before .before .before .before .before .before .before .before .before)) (z (c .before .before .before .before .before .before .before .before .before .before .before .before .before .before .before .before .before .before .before .before .before .before .before .before .before)) (sym (c .before .before .before .before .before .before .before .before .before .before .before .before .before .some-fall .ensures) ∙ c .before .before .before .before .before .before .before .before .before .before .before .before .if1 .left)) (c .before .before .before .before .before .before .write-filled .ensures)
+    let start = c .before .before .before .before .before .before .before .before .before .before .before .before .before .before .before .before .before .before .before in
+    let none = sym (c .before .before .before .before .before .before .before .before .before .before .before .some-fall .ensures) ∙ c .before .before .before .before .before .before .before .before .before .before .if1 .left in
+    rw (expanded-filled (t start) (z start) none) (c .before .before .before .before .before .before .write-filled .ensures)
 
 pub write-intervals-spec : {M : Type 1} → statement M
 write-intervals-spec =
     tie.close
     (tie.spec
-    dues-before-requires
-    dues-after-requires
     some-fall-requires
     write-drained-requires
     same-length

@@ -1,5 +1,5 @@
 -- `growth::grown` meets its contract: rules 1 to 5, then 8, then the new table. Assumes nothing.
-use mathlib.Core.Path.{sym, _∙_}
+use mathlib.Core.Path.{refl, sym, _∙_}
 use native.Mathlib.Omega.{arith}
 use Rattle.growth.proofs.Grows.{grow-same, grow-refused, grow-full, grow-accepted}
 use borrow.Author.Needs.{needs}
@@ -17,8 +17,21 @@ returns c =
     grow-same _ _ _ _ _ _ (c .refused-table .ensures)
     (grow-refused _ _ _ _ (c .before .before .growth-refusal .ensures) (c .before .if1 .taken))
 
+dues-before-requires : tie.Need-dues-before-requires
+dues-before-requires c κs = search needs
+
+dues-after-requires : tie.Need-dues-after-requires
+dues-after-requires c κs =
+    (c .before .before .before .before .before .before .before .before .before .before .before .before .before .pre .0, (sym (c .before .before .before .before .growth-refusal .ensures) ∙ c .before .before .before .if1 .left, refl))
+
 measure-requires : tie.Need-measure-requires
-measure-requires c κs = search needs
+measure-requires c κs = (
+  c .before .before .before .before .before .before .before .before .before .before .before .before .before .before .before .before .pre .0,
+  (
+    sym (c .before .before .before .before .before .before .before .growth-refusal .ensures) ∙ c .before .before .before .before .before .before .if1 .left,
+    (c .before .before .before .before .dues-before .ensures, c .before .before .dues-after .ensures),
+  ),
+)
 
 refused-table-requires-2 : tie.Need-refused-table-requires-2
 refused-table-requires-2 c κs = search needs
@@ -26,19 +39,23 @@ refused-table-requires-2 c κs = search needs
 returns-2 : tie.Need-returns-2
 returns-2 c =
     grow-same _ _ _ _ _ _ (c .refused-table2 .ensures)
-    (grow-full _ _ _ _ (c .before .before .before .before .before .growth-refusal .ensures) (c .before .before .before .before .if1 .left) (omega (arith, c .before .before .before .measure .ensures .0)))
+    (grow-full _ _ _ _ (c .before .before .before .before .before .before .before .before .before .before .before .growth-refusal .ensures) (c .before .before .before .before .before .before .before .before .before .before .if1 .left) (omega (arith, c .before .before .before .measure .ensures .0)))
 
 blocks-after-requires : tie.Need-blocks-after-requires
-blocks-after-requires c κs = search needs
+blocks-after-requires c κs = c .before .before .before .before .before .before .before .before .before .before .before .before .before .before .before .before .before .before .before .pre .0
 
 write-expanded-requires : tie.Need-write-expanded-requires
-write-expanded-requires c κs = (
-  search needs,
-  (
-    sym (c .before .before .before .before .before .before .before .before .before .growth-refusal .ensures) ∙ c .before .before .before .before .before .before .before .before .if1 .left,
-    (search needs, omega (arith, c .before .before .before .before .before .before .before .measure .ensures .0)),
-  ),
-)
+write-expanded-requires c κs =
+    let (sound, room) = c .before .before .before .before .before .before .before .before .before .before .before .before .before .before .before .before .before .before .before .before .before .before .before .before .before .before .pre in (
+      sound,
+      (
+        sym (c .before .before .before .before .before .before .before .before .before .before .before .before .before .before .before .before .before .growth-refusal .ensures) ∙ c .before .before .before .before .before .before .before .before .before .before .before .before .before .before .before .before .if1 .left,
+        (
+          c .before .before .before .before .before .before .before .before .before .before .before .before .before .before .dues-before .ensures,
+          (c .before .before .before .before .before .before .before .before .before .before .before .before .dues-after .ensures, (room, omega (arith, c .before .before .before .before .before .before .before .before .before .measure .ensures .0))),
+        ),
+      ),
+    )
 
 same-length : tie.Need-same-length
 same-length c = search needs
@@ -54,10 +71,10 @@ same-length-4 c = search needs
 
 returns-3 : tie.Need-returns-3
 returns-3 c =
-    grow-accepted _ _ _ _ (c .before .before .before .before .before .before .before .before .before .before .before .before .before .before .before .before .before .before .growth-refusal .ensures) _ _ _ _ (c .before .before .before .before .before .before .before .before .before .before .before .before .before .before .before .before .before .if1 .left) (c .before .before .before .before .before .before .before .before .before .before .before .before .before .before .if2 .left)
-    (c .before .before .before .before .before .before .before .before .before .before .before .before .before .blocks-after .ensures)
-    (c .before .before .before .before .before .before .before .before .before .before .before .before .before .before .before .before .measure .ensures .0)
-    (c .before .before .before .before .before .before .before .before .before .before .before .before .before .before .before .before .measure .ensures .1)
+    grow-accepted _ _ _ _ (c .before .before .before .before .before .before .before .before .before .before .before .before .before .before .before .before .before .before .before .before .before .before .before .before .before .before .growth-refusal .ensures) _ _ _ _ (c .before .before .before .before .before .before .before .before .before .before .before .before .before .before .before .before .before .before .before .before .before .before .before .before .before .if1 .left) (c .before .before .before .before .before .before .before .before .before .before .before .before .before .before .before .before .if2 .left)
+    (c .before .before .before .before .before .before .before .before .before .before .before .before .before .before .before .blocks-after .ensures)
+    (c .before .before .before .before .before .before .before .before .before .before .before .before .before .before .before .before .before .before .measure .ensures .0)
+    (c .before .before .before .before .before .before .before .before .before .before .before .before .before .before .before .before .before .before .measure .ensures .1)
     (c .before .before .before .before .before .before .before .before .write-expanded .ensures)
 
 pub grown-spec : {M : Type 1} → statement M
@@ -67,6 +84,8 @@ grown-spec =
     growth-refusal-requires
     refused-table-requires
     returns
+    dues-before-requires
+    dues-after-requires
     measure-requires
     refused-table-requires-2
     returns-2

@@ -14,11 +14,11 @@ use Rattle.plan.proofs.block_dues.Statement.{statement}
 use Rattle.plan.proofs.block_dues.Tie as tie
 
 abbrev Inv-loop : tie.InvT-loop
-Inv-loop tops count buckets bins quotient remainder dues₀ below₀ j₀ dues below j =
+Inv-loop tops count buckets bins dues₀ quotient remainder below₀ j₀ dues below j =
     (j ≤ count) × (below ≡ dueBelow (sizes buckets bins) (before tops j)) × Dues (sizes buckets bins) tops j dues
 
 abbrev μ-loop : tie.MeasureT-loop
-μ-loop tops count buckets bins quotient remainder dues₀ below₀ j₀ dues below j = count - j
+μ-loop tops count buckets bins dues₀ quotient remainder below₀ j₀ dues below j = count - j
 
 div-quotient : tie.Need-div-quotient Inv-loop μ-loop
 div-quotient c = omega arith
@@ -27,7 +27,7 @@ rem-remainder : tie.Need-rem-remainder Inv-loop μ-loop
 rem-remainder c = omega arith
 
 loop-holds : tie.Need-loop-holds Inv-loop μ-loop
-loop-holds c = (omega arith, sym (due-none _ _), dues-none _ _)
+loop-holds c = (omega arith, sym (due-none _ _), rw (c .before .pre .1) (dues-none _ _))
 
 mul-due-below : tie.Need-mul-due-below Inv-loop μ-loop
 mul-due-below c = omega arith
@@ -39,21 +39,21 @@ due-below-requires : tie.Need-due-below-requires Inv-loop μ-loop
 unfolding dueBelow
 due-below-requires c κs =
     let start = c .before .before .before .before in
-    let t = due-turn (sizes (start .args .buckets) (start .args .bins)) _ _ (start .pre) (c .before .before .loop .j) (omega arith) in
+    let t = due-turn (sizes (start .args .buckets) (start .args .bins)) _ _ (start .pre .0) (c .before .before .loop .j) (omega arith) in
     omega arith
 
 sub-dues : tie.Need-sub-dues Inv-loop μ-loop
 unfolding dueBelow
 sub-dues c =
     let start = c .before .before .before .before .before in
-    let t = due-turn (sizes (start .args .buckets) (start .args .bins)) _ _ (start .pre) (c .before .before .before .loop .j) (omega arith) in
+    let t = due-turn (sizes (start .args .buckets) (start .args .bins)) _ _ (start .pre .0) (c .before .before .before .loop .j) (omega arith) in
     omega (arith, c .due-below .ensures)
 
 mul-dues : tie.Need-mul-dues Inv-loop μ-loop
 mul-dues c = omega arith
 
-array-write-dues : tie.Need-array-write-dues Inv-loop μ-loop
-array-write-dues c = omega arith
+element-write-dues : tie.Need-element-write-dues Inv-loop μ-loop
+element-write-dues c = omega arith
 
 add-j : tie.Need-add-j Inv-loop μ-loop
 add-j c = omega arith
@@ -66,17 +66,17 @@ unfolding dueBelow
 loop-again c =
     let start = c .before .before .before .before .before in
     let turn = c .before .before .before .loop in
-    let t = due-turn (sizes (start .args .buckets) (start .args .bins)) _ _ (start .pre) (turn .j) (omega arith) in (
+    let t = due-turn (sizes (start .args .buckets) (start .args .bins)) _ _ (start .pre .0) (turn .j) (omega arith) in (
       omega arith,
       rw before-next (c .due-below .ensures),
       dues-more _ _ _ _ _ (turn .inv .2) (omega arith) (omega (arith, c .due-below .ensures)),
     )
 
 returns : tie.Need-returns Inv-loop μ-loop
-returns c j l =
+returns c =
     let start = c .before .before .before in
     let all : c .before .loop .j ≡ start .args .count = omega arith in
-    dues-whole _ _ _ _ (rw all at (c .before .loop .inv .2)) (start .pre .long) j
+    (c .before .loop .inv .2 .cells, λ j l. dues-whole _ _ _ _ (rw all at (c .before .loop .inv .2)) (start .pre .0 .long) j)
 
 pub block-dues-spec : {M : Type 1} → statement M
 block-dues-spec =
@@ -92,7 +92,7 @@ block-dues-spec =
     due-below-requires
     sub-dues
     mul-dues
-    array-write-dues
+    element-write-dues
     add-j
     loop-less
     loop-again

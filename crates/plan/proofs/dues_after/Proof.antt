@@ -25,7 +25,7 @@ well : (s : tie.Start) → Well (t s)
 well s = sound-well _ _ (s .pre .0)
 
 asked : (s : tie.Start) → Accepted (t s) (z s)
-asked s = accepted _ _ (s .pre .1)
+asked s = accepted _ _ (s .pre .1 .0)
 
 bin-count-requires : tie.Need-bin-count-requires
 bin-count-requires c κs = search needs
@@ -35,8 +35,10 @@ cast-block-dues c = search needs
 
 block-dues-requires : tie.Need-block-dues-requires
 block-dues-requires c κs =
-    let start = c .before .before .before .before .before .before in
-    sound-tops _ _ (start .pre .0) _ (omega (arith, bins-last _ _ (start .pre .0), asked start .moreBins))
+    let start = c .before .before .before .before .before .before .before in (
+      sound-tops _ _ (start .pre .0) _ (omega (arith, bins-last _ _ (start .pre .0), asked start .moreBins)),
+      start .pre .1 .1,
+    )
 
 div-due-below : tie.Need-div-due-below
 div-due-below c = search needs
@@ -47,15 +49,15 @@ rem-due-below c = search needs
 due-below-requires : tie.Need-due-below-requires
 unfolding dueBelow
 due-below-requires c κs =
-    let start = c .before .before .before .before .before .before .before .before in
-    let n = c .before .before .before .bin-count in
+    let start = c .before .before .before .before .before .before .before .before .before in
+    let n = c .before .before .before .before .bin-count in
     omega (arith, due-within (z start) (n .result) (omega (arith, n .ensures, asked start .moreBins)), start .fits .buckets)
 
 sub-dues : tie.Need-sub-dues
 unfolding dueBelow
 sub-dues c =
-    let start = c .before .before .before .before .before .before .before .before .before in
-    let n = c .before .before .before .before .bin-count in
+    let start = c .before .before .before .before .before .before .before .before .before .before in
+    let n = c .before .before .before .before .before .bin-count in
     omega (arith, due-within (z start) (n .result) (omega (arith, n .ensures, asked start .moreBins)), c .due-below .ensures)
 
 cast-dues : tie.Need-cast-dues
@@ -64,37 +66,37 @@ cast-dues c = search needs
 mul-dues : tie.Need-mul-dues
 mul-dues c = search needs
 
-array-write-dues : tie.Need-array-write-dues
-array-write-dues c =
-    let start = c .before .before .before .before .before .before .before .before .before .before in
+element-write-dues : tie.Need-element-write-dues
+element-write-dues c =
+    let start = c .before .before .before .before .before .before .before .before .before .before .before in
     omega (
       arith,
       tops-length _ _ (start .pre .0),
-      new-room (t start) (z start) (well start) (asked start) (omega (arith, c .before .before .before .before .before .bin-count .ensures, c .before .before .if1 .taken)),
+      new-room (t start) (z start) (well start) (asked start) (omega (arith, c .before .before .before .before .before .before .bin-count .ensures, c .before .before .if1 .taken)),
     )
 
 returns : tie.Need-returns
 unfolding dueBelow table
 returns c j l =
-    let start = c .before .before .before .before .before .before .before .before .before .before in
-    let n = c .before .before .before .before .before .bin-count in
+    let start = c .before .before .before .before .before .before .before .before .before .before .before in
+    let n = c .before .before .before .before .before .before .bin-count in
     let below = ap (dueBelow (z start)) (n .ensures) in
     rw (tops-length _ _ (start .pre .0)) at
     (after-more (t start) (z start) (well start) (asked start) (omega (arith, n .ensures, c .before .before .if1 .taken))
     (start .args .buckets - c .before .due-below .result)
-    (c .before .before .before .block-dues .result)
-    (search needs)
+    (c .before .before .before .block-dues .last .1 .1 .1 .1 .0)
+    (c .before .before .before .block-dues .ensures .0)
     (omega (arith, due-within (z start) (n .result) (omega (arith, n .ensures, asked start .moreBins)), c .before .due-below .ensures))
-    (c .before .before .before .block-dues .ensures)
+    (c .before .before .before .block-dues .ensures .1)
     j
     l)
 
 returns-2 : tie.Need-returns-2
 unfolding table
 returns-2 c j l =
-    let start = c .before .before .before .before .before .before .before .before in
-    c .before .block-dues .ensures j l
-    ∙ sym (after-same (t start) (z start) (omega (arith, c .before .before .before .bin-count .ensures, c .if1 .left)) j)
+    let start = c .before .before .before .before .before .before .before .before .before in
+    c .before .block-dues .ensures .1 j l
+    ∙ sym (after-same (t start) (z start) (omega (arith, c .before .before .before .before .bin-count .ensures, c .if1 .left)) j)
 
 pub dues-after-spec : {M : Type 1} → statement M
 dues-after-spec =
@@ -109,6 +111,6 @@ dues-after-spec =
     sub-dues
     cast-dues
     mul-dues
-    array-write-dues
+    element-write-dues
     returns
     returns-2)

@@ -24,16 +24,16 @@ cast-block-dues c = search needs
 
 block-dues-requires : tie.Need-block-dues-requires
 block-dues-requires c κs =
-    let sound = c .before .before .before .before .before .before .pre in
-    sound-tops _ _ sound _ (omega (arith, c .before .bin-count .ensures, bins-last _ _ sound))
+    let (sound, zeros) = c .before .before .before .before .before .before .before .pre in
+    (sound-tops _ _ sound _ (omega (arith, c .before .before .bin-count .ensures, bins-last _ _ sound)), zeros)
 
 returns : tie.Need-returns
 unfolding shape table
 returns c j l =
-    let start = c .before .before .before .before .before .before .before in
-    c .block-dues .ensures j l
-    ∙ ap (λ n. dueOfBlock (sizes (start .args .h .buckets) n) (t start .tops) j) (c .before .before .bin-count .ensures)
-    ∙ sym (has-dues (t start) (sound-well _ _ (start .pre)) j)
+    let start = c .before .before .before .before .before .before .before .before in
+    c .block-dues .ensures .1 j l
+    ∙ ap (λ n. dueOfBlock (sizes (start .args .h .buckets) n) (t start .tops) j) (c .before .before .before .bin-count .ensures)
+    ∙ sym (has-dues (t start) (sound-well _ _ (start .pre .0)) j)
 
 pub dues-before-spec : {M : Type 1} → statement M
 dues-before-spec =

@@ -7,7 +7,7 @@ use lib.ListN.{length, length-append, length-set}
 use borrow.Author.Needs.{needs}
 use Rattle.print.specs.Numbers.{numbers, lineOf}
 use Rattle.print.proofs.Lines.{numbers-short}
-use Rattle.print.proofs.Stores.{Put, put-none, put-length, put-more}
+use Rattle.model.proofs.Entries.{Put, put-none, put-length, put-more}
 use Rattle.print.proofs.put_line.Statement.{statement}
 use Rattle.print.proofs.put_line.Tie as tie
 
@@ -30,8 +30,8 @@ stored
 stored c =
     let first = c .before .before .before .before .before .before .put-word .ensures in
     let then = c .before .before .put-numbers .ensures in
-    let word = put-more (put-none _ _) (start c .args .word .now) (first .0) (first .1) in
-    put-more word (numbers (start c .args .ns .now)) (then .0) (then .1)
+    let word = put-more (put-none _ _) (start c .args .word .now) (first .1) (first .0) in
+    put-more word (numbers (start c .args .ns .now)) (then .1) (then .0)
 
 -- with room for the line feed
 room : (c : tie.After-slice-known3) → c .before .before .put-numbers .result < length (start c .args .out .now)
@@ -57,7 +57,7 @@ returns : tie.Need-returns
 unfolding lineOf
 returns c =
     let all = put-more (stored c) (10 ∷ []) refl refl in
-    (all .place, all .bytes)
+    (all .place, all .holds)
 
 pub put-line-spec : {M : Type 1} → statement M
 put-line-spec =

@@ -7,7 +7,7 @@ use lib.Seq.{length-take-le, take-length}
 use Rattle.model.specs.Basics.{joined}
 use Rattle.print.specs.Numbers.{numbers}
 use Rattle.print.proofs.Lines.{numbers-next, numbers-short}
-use Rattle.print.proofs.Stores.{Put, put-none, put-length, put-more}
+use Rattle.model.proofs.Entries.{Put, put-none, put-length, put-more}
 use Rattle.print.proofs.put_numbers.Statement.{statement}
 use Rattle.print.proofs.put_numbers.Tie as tie
 
@@ -52,7 +52,7 @@ loop-again c =
     let ns = c .before .before .before .before .before .before .before .before .before .args .ns .now in
     let inside : turn .i < length ns = omega arith in (
       omega arith,
-      rw (numbers-next ns (turn .i)) (put-more (turn .inv .1) _ (stored .ensures .0) (stored .ensures .1)),
+      rw (numbers-next ns (turn .i)) (put-more (turn .inv .1) _ (stored .ensures .1) (stored .ensures .0)),
     )
 
 same-length : tie.Need-same-length Inv-loop μ-loop
@@ -64,7 +64,7 @@ returns c =
     let all : c .before .loop .i ≡ length ns = omega arith in
     let whole : take (c .before .loop .i) ns ≡ ns = rw all (take-length ns) in
     let p = rw whole at (c .before .loop .inv .1) in
-    (p .place, p .bytes)
+    (p .place, p .holds)
 
 pub put-numbers-spec : {M : Type 1} → statement M
 put-numbers-spec =

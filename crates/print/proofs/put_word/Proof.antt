@@ -5,7 +5,8 @@ use native.Mathlib.Nat.{add-zero}
 use native.Mathlib.Omega.{arith}
 use lib.ListN.{length, take}
 use lib.Seq.{take-length}
-use Rattle.print.proofs.Stores.{take-next, Put, put-none, put-length, put-more}
+use Rattle.model.proofs.Entries.{Put, put-none, put-length, put-more}
+use Rattle.print.proofs.Stores.{take-next}
 use Rattle.print.proofs.put_word.Statement.{statement}
 use Rattle.print.proofs.put_word.Tie as tie
 
@@ -38,7 +39,7 @@ loop-again c =
     let turn = c .before .before .loop in
     let word = c .before .before .before .args .word .now in
     let inside : turn .i < length word = omega arith in
-    (omega arith, rw (take-next word (turn .i)) (put-more (turn .inv .1) _ (omega arith) refl))
+    (omega arith, rw (take-next word (turn .i)) (put-more (turn .inv .1) _ refl (omega arith)))
 
 add-result : tie.Need-add-result Inv-loop μ-loop
 add-result c = omega arith
@@ -52,7 +53,7 @@ returns c =
     let all : c .before .loop .i ≡ length word = omega arith in
     let whole : take (c .before .loop .i) word ≡ word = rw all (take-length word) in
     let p = rw whole at (c .before .loop .inv .1) in
-    (p .place, p .bytes)
+    (p .place, p .holds)
 
 pub put-word-spec : {M : Type 1} → statement M
 put-word-spec =

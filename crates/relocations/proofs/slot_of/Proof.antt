@@ -1,5 +1,7 @@
 -- `relocations::slot_of` meets its contract. Assumes nothing.
+use Prim.Native.Nat.{_-_}
 use native.Mathlib.Nat.{div-add-mod', mod-lt}
+use native.Mathlib.Omega.{arith}
 use borrow.Author.Needs.{needs}
 use Rattle.relocations.proofs.slot_of.Statement.{statement}
 use Rattle.relocations.proofs.slot_of.Tie as tie
@@ -10,11 +12,23 @@ sub-rank c = search needs
 rem-t4 : tie.Need-rem-t4
 rem-t4 c = search needs
 
-div-t5 : tie.Need-div-t5
-div-t5 c = search needs
+add-t5 : tie.Need-add-t5
+add-t5 c =
+    let start = c .before .before .before in
+    omega (arith, mod-lt (start .args .bucket - start .args .placing .adjustment) (start .pre .some))
+
+div-t6 : tie.Need-div-t6
+div-t6 c = search needs
 
 returns : tie.Need-returns
-returns c = record { within = mod-lt _ (search needs); whole = div-add-mod' _ _ }
+returns c =
+    let start = c .before .before .before .before in
+    let rank = start .args .bucket - start .args .placing .adjustment in
+    record {
+      after = omega arith;
+      within = omega (arith, mod-lt rank (start .pre .some));
+      whole = omega (arith, div-add-mod' rank (start .args .placing .bins));
+    }
 
 pub slot-of-spec : {M : Type 1} → statement M
-slot-of-spec = tie.close (tie.spec sub-rank rem-t4 div-t5 returns)
+slot-of-spec = tie.close (tie.spec sub-rank rem-t4 add-t5 div-t6 returns)

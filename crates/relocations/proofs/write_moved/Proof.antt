@@ -10,6 +10,7 @@ use Rattle.relocations.proofs.Walking.{
   Walking,
   walking-starts,
   walking-length,
+  walking-full,
   walking-ends,
   walking-acts,
   walking-more,
@@ -18,11 +19,11 @@ use Rattle.relocations.proofs.write_moved.Statement.{statement}
 use Rattle.relocations.proofs.write_moved.Tie as tie
 
 abbrev Inv-loop : tie.InvT-loop
-Inv-loop h tops ends blocks adjustments buckets bins dues first rows₀ old-bins i₀ start₀ moved₀ rows i start moved =
+Inv-loop h tops ends blocks adjustments buckets bins dues first rows₀ old-bins room i₀ start₀ moved₀ rows i start moved =
     Walking h (arrays tops ends blocks adjustments) (sizes buckets bins) first rows₀ rows i start moved
 
 abbrev μ-loop : tie.MeasureT-loop
-μ-loop h tops ends blocks adjustments buckets bins dues first rows₀ old-bins i₀ start₀ moved₀ rows i start moved =
+μ-loop h tops ends blocks adjustments buckets bins dues first rows₀ old-bins room i₀ start₀ moved₀ rows i start moved =
     h .«interval_count» - i
 
 -- the lent arrays and the sizes asked for, from the function's entry
@@ -45,98 +46,16 @@ loop-holds c =
 cast-if1 : tie.Need-cast-if1 Inv-loop μ-loop
 cast-if1 c = omega (arith, c .before .before .before .before .before .before .before .before .pre .0 .intervalLimit)
 
-plan-at-requires : tie.Need-plan-at-requires Inv-loop μ-loop
-plan-at-requires c κs =
-    let start = c .before .before .before .before .before .before .before .before .before in
-    let inv = c .before .before .loop .inv in
-    (start .pre .0, (start .pre .1 .1 .1, (c .if1 .taken, inv .starts, inv .below)))
+excess-requires : tie.Need-excess-requires Inv-loop μ-loop
+excess-requires c κs = tt
 
-mul-end : tie.Need-mul-end Inv-loop μ-loop
-mul-end c = omega (arith, c .before .if1 .taken, c .before .before .before .before .before .before .before .before .before .before .pre .0 .intervalLimit)
-
-shared-slice-read-end : tie.Need-shared-slice-read-end Inv-loop μ-loop
-shared-slice-read-end c = lt-of-lt-of-le (c .before .before .if1 .taken) (c .before .before .before .before .before .before .before .before .before .before .before .pre .0 .endsLong)
-
-mul-placing-of : tie.Need-mul-placing-of Inv-loop μ-loop
-mul-placing-of c = omega (arith, c .before .before .if1 .taken, c .before .before .before .before .before .before .before .before .before .before .before .pre .0 .intervalLimit)
-
-shared-slice-read-placing-of : tie.Need-shared-slice-read-placing-of Inv-loop μ-loop
-shared-slice-read-placing-of c = lt-of-lt-of-le (c .before .before .before .if1 .taken) (c .before .before .before .before .before .before .before .before .before .before .before .before .pre .0 .blocksLong)
-
-cast-placing-of : tie.Need-cast-placing-of Inv-loop μ-loop
-cast-placing-of c =
-    let start = c .before .before .before .before .before .before .before .before .before .before .before .before in
-    omega (arith, start .pre .0 .blocksBelow (c .before .before .before .before .before .loop .i) (c .before .before .before .if1 .taken), start .pre .0 .blockLimit)
-
-mul-placing-of-2 : tie.Need-mul-placing-of-2 Inv-loop μ-loop
-mul-placing-of-2 c = omega (arith, c .before .before .before .if1 .taken, c .before .before .before .before .before .before .before .before .before .before .before .before .pre .0 .intervalLimit)
-
-shared-slice-read-placing-of-2 : tie.Need-shared-slice-read-placing-of-2 Inv-loop μ-loop
-shared-slice-read-placing-of-2 c = lt-of-lt-of-le (c .before .before .before .before .if1 .taken) (c .before .before .before .before .before .before .before .before .before .before .before .before .before .pre .0 .adjustmentsLong)
-
-placing-of-requires : tie.Need-placing-of-requires Inv-loop μ-loop
-placing-of-requires c κs =
-    let start = c .before .before .before .before .before .before .before .before .before .before .before .before .before in
-    let below = start .pre .0 .blocksBelow (c .before .before .before .before .before .before .loop .i) (c .before .before .before .before .if1 .taken) in
-    (lt-of-lt-of-le below (start .pre .0 .topsLong), le-of-lt (start .pre .0 .topsRise _ below))
-
-sub-write-action : tie.Need-sub-write-action Inv-loop μ-loop
-sub-write-action c =
-    let start = c .before .before .before .before .before .before .before .before .before .before .before .before .before .before in
-    omega (arith, accepted (table (start .args .h) (lists start)) (asked start) (start .pre .1 .0) .moreBins, c .before .before .before .before .before .before .before .before .bin-count .ensures)
-
-write-action-requires : tie.Need-write-action-requires Inv-loop μ-loop
-write-action-requires c κs =
-    let start = c .before .before .before .before .before .before .before .before .before .before .before .before .before .before .before in
-    let at = c .before .before .before .before .before .before .before .before .loop in
-    walking-acts (start .args .h) (lists start) (asked start) (start .pre .0) (start .pre .1 .0) (start .pre .1 .1 .0)
-    (start .args .first)
-    (start .args .rows .now)
-    (at .rows)
-    (at .i)
-    (at .start)
-    (at .moved)
-    (at .inv)
-    (c .before .before .before .before .before .before .if1 .taken)
-    (c .before .before .before .before .before .plan-at .result)
-    (c .before .placing-of .result)
-    (c .before .before .before .before .before .before .before .before .before .bin-count .result)
-    (c .before .before .before .before .before .plan-at .ensures)
-    (c .before .placing-of .ensures)
-    (c .before .before .before .before .before .before .before .before .before .bin-count .ensures)
-
-add-i : tie.Need-add-i Inv-loop μ-loop
-add-i c = omega (arith, c .before .before .before .before .before .before .before .before .before .if1 .taken, c .before .before .before .before .before .before .before .before .before .before .before .before .before .before .before .before .before .before .pre .0 .intervalLimit)
-
-loop-less : tie.Need-loop-less Inv-loop μ-loop
-loop-less c = falls _ _ (c .before .before .before .before .before .before .before .before .before .if1 .taken)
-
-loop-again : tie.Need-loop-again Inv-loop μ-loop
-loop-again c =
-    let start = c .before .before .before .before .before .before .before .before .before .before .before .before .before .before .before .before .before .before in
-    let at = c .before .before .before .before .before .before .before .before .before .before .before .loop in
-    walking-more (start .args .h) (lists start) (asked start) (start .pre .0) (start .pre .1 .0) (start .pre .1 .1 .0)
-    (start .args .first)
-    (start .args .rows .now)
-    (at .rows)
-    (at .i)
-    (at .start)
-    (at .moved)
-    (at .inv)
-    (c .before .before .before .before .before .before .before .before .before .if1 .taken)
-    (c .before .before .before .before .before .before .before .before .plan-at .result)
-    (c .before .before .before .before .placing-of .result)
-    (c .before .before .before .before .before .before .before .before .before .before .before .before .bin-count .result)
-    (c .before .before .before .before .before .before .before .before .plan-at .ensures)
-    (c .before .before .before .before .placing-of .ensures)
-    (c .before .before .before .before .before .before .before .before .before .before .before .before .bin-count .ensures)
-    _
-    (c .before .before .write-action .ensures)
+cast-if2 : tie.Need-cast-if2 Inv-loop μ-loop
+cast-if2 c = omega arith
 
 same-length : tie.Need-same-length Inv-loop μ-loop
 same-length c =
-    let start = c .before .before .before .before .before .before .before .before .before in
-    let at = c .before .before .loop in
+    let start = c .before .before .before .before .before .before .before .before .before .before .before in
+    let at = c .before .before .before .before .loop in
     walking-length (start .args .h) (lists start) (asked start) (start .pre .0) (start .pre .1 .0) (start .pre .1 .1 .0)
     (start .args .first)
     (start .args .rows .now)
@@ -148,6 +67,122 @@ same-length c =
 
 returns : tie.Need-returns Inv-loop μ-loop
 returns c =
+    let start = c .before .before .before .before .before .before .before .before .before .before .before in
+    let at = c .before .before .before .before .loop in
+    walking-full (start .args .h) (lists start) (asked start) (start .pre .0) (start .pre .1 .0) (start .pre .1 .1 .0)
+    (start .args .first)
+    (start .args .rows .now)
+    (at .rows)
+    (at .i)
+    (at .start)
+    (at .moved)
+    (at .inv)
+    (c .before .before .if1 .taken)
+    (omega (arith, c .if2 .taken, c .before .excess .ensures))
+
+plan-at-requires : tie.Need-plan-at-requires Inv-loop μ-loop
+plan-at-requires c κs =
+    let start = c .before .before .before .before .before .before .before .before .before .before .before in
+    let inv = c .before .before .before .before .loop .inv in
+    (start .pre .0, (start .pre .1 .1 .1, (c .before .before .if1 .taken, inv .starts, inv .below)))
+
+mul-end : tie.Need-mul-end Inv-loop μ-loop
+mul-end c = omega (arith, c .before .before .before .if1 .taken, c .before .before .before .before .before .before .before .before .before .before .before .before .pre .0 .intervalLimit)
+
+shared-slice-read-end : tie.Need-shared-slice-read-end Inv-loop μ-loop
+shared-slice-read-end c = lt-of-lt-of-le (c .before .before .before .before .if1 .taken) (c .before .before .before .before .before .before .before .before .before .before .before .before .before .pre .0 .endsLong)
+
+mul-placing-of : tie.Need-mul-placing-of Inv-loop μ-loop
+mul-placing-of c = omega (arith, c .before .before .before .before .if1 .taken, c .before .before .before .before .before .before .before .before .before .before .before .before .before .pre .0 .intervalLimit)
+
+shared-slice-read-placing-of : tie.Need-shared-slice-read-placing-of Inv-loop μ-loop
+shared-slice-read-placing-of c = lt-of-lt-of-le (c .before .before .before .before .before .if1 .taken) (c .before .before .before .before .before .before .before .before .before .before .before .before .before .before .pre .0 .blocksLong)
+
+cast-placing-of : tie.Need-cast-placing-of Inv-loop μ-loop
+cast-placing-of c =
+    let start = c .before .before .before .before .before .before .before .before .before .before .before .before .before .before in
+    omega (arith, start .pre .0 .blocksBelow (c .before .before .before .before .before .before .before .loop .i) (c .before .before .before .before .before .if1 .taken), start .pre .0 .blockLimit)
+
+mul-placing-of-2 : tie.Need-mul-placing-of-2 Inv-loop μ-loop
+mul-placing-of-2 c = omega (arith, c .before .before .before .before .before .if1 .taken, c .before .before .before .before .before .before .before .before .before .before .before .before .before .before .pre .0 .intervalLimit)
+
+shared-slice-read-placing-of-2 : tie.Need-shared-slice-read-placing-of-2 Inv-loop μ-loop
+shared-slice-read-placing-of-2 c = lt-of-lt-of-le (c .before .before .before .before .before .before .if1 .taken) (c .before .before .before .before .before .before .before .before .before .before .before .before .before .before .before .pre .0 .adjustmentsLong)
+
+placing-of-requires : tie.Need-placing-of-requires Inv-loop μ-loop
+placing-of-requires c κs =
+    let start = c .before .before .before .before .before .before .before .before .before .before .before .before .before .before .before in
+    let below = start .pre .0 .blocksBelow (c .before .before .before .before .before .before .before .before .loop .i) (c .before .before .before .before .before .before .if1 .taken) in
+    (lt-of-lt-of-le below (start .pre .0 .topsLong), le-of-lt (start .pre .0 .topsRise _ below))
+
+sub-write-action : tie.Need-sub-write-action Inv-loop μ-loop
+sub-write-action c =
+    let start = c .before .before .before .before .before .before .before .before .before .before .before .before .before .before .before .before in
+    omega (arith, accepted (table (start .args .h) (lists start)) (asked start) (start .pre .1 .0) .moreBins, c .before .before .before .before .before .before .before .before .before .before .bin-count .ensures)
+
+write-action-requires : tie.Need-write-action-requires Inv-loop μ-loop
+write-action-requires c κs =
+    let start = c .before .before .before .before .before .before .before .before .before .before .before .before .before .before .before .before .before in
+    let at = c .before .before .before .before .before .before .before .before .before .before .loop in
+    walking-acts (start .args .h) (lists start) (asked start) (start .pre .0) (start .pre .1 .0) (start .pre .1 .1 .0)
+    (start .args .first)
+    (start .args .rows .now)
+    (at .rows)
+    (at .i)
+    (at .start)
+    (at .moved)
+    (at .inv)
+    (c .before .before .before .before .before .before .before .before .if1 .taken)
+    (c .before .before .before .before .before .plan-at .result)
+    (c .before .placing-of .result)
+    (c .before .before .before .before .before .before .before .before .before .before .before .bin-count .result)
+    (c .before .before .before .before .before .plan-at .ensures)
+    (c .before .placing-of .ensures)
+    (c .before .before .before .before .before .before .before .before .before .before .before .bin-count .ensures)
+
+add-i : tie.Need-add-i Inv-loop μ-loop
+add-i c = omega (arith, c .before .before .before .before .before .before .before .before .before .before .before .if1 .taken, c .before .before .before .before .before .before .before .before .before .before .before .before .before .before .before .before .before .before .before .before .pre .0 .intervalLimit)
+
+loop-less : tie.Need-loop-less Inv-loop μ-loop
+loop-less c = falls _ _ (c .before .before .before .before .before .before .before .before .before .before .before .if1 .taken)
+
+loop-again : tie.Need-loop-again Inv-loop μ-loop
+loop-again c =
+    let start = c .before .before .before .before .before .before .before .before .before .before .before .before .before .before .before .before .before .before .before .before in
+    let at = c .before .before .before .before .before .before .before .before .before .before .before .before .before .loop in
+    walking-more (start .args .h) (lists start) (asked start) (start .pre .0) (start .pre .1 .0) (start .pre .1 .1 .0)
+    (start .args .first)
+    (start .args .rows .now)
+    (at .rows)
+    (at .i)
+    (at .start)
+    (at .moved)
+    (at .inv)
+    (c .before .before .before .before .before .before .before .before .before .before .before .if1 .taken)
+    (c .before .before .before .before .before .before .before .before .plan-at .result)
+    (c .before .before .before .before .placing-of .result)
+    (c .before .before .before .before .before .before .before .before .before .before .before .before .before .before .bin-count .result)
+    (c .before .before .before .before .before .before .before .before .plan-at .ensures)
+    (c .before .before .before .before .placing-of .ensures)
+    (c .before .before .before .before .before .before .before .before .before .before .before .before .before .before .bin-count .ensures)
+    _
+    (c .before .before .write-action .ensures)
+
+same-length-2 : tie.Need-same-length-2 Inv-loop μ-loop
+same-length-2 c =
+    let start = c .before .before .before .before .before .before .before .before .before in
+    let at = c .before .before .loop in
+    walking-length (start .args .h) (lists start) (asked start) (start .pre .0) (start .pre .1 .0) (start .pre .1 .1 .0)
+    (start .args .first)
+    (start .args .rows .now)
+    (at .rows)
+    (at .i)
+    (at .start)
+    (at .moved)
+    (at .inv)
+
+returns-2 : tie.Need-returns-2 Inv-loop μ-loop
+returns-2 c =
     let start = c .before .before .before .before .before .before .before .before .before in
     let at = c .before .before .loop in
     walking-ends (start .args .h) (lists start) (asked start) (start .pre .0) (start .pre .1 .0) (start .pre .1 .1 .0)
@@ -169,6 +204,10 @@ write-moved-spec =
     bin-count-requires
     loop-holds
     cast-if1
+    excess-requires
+    cast-if2
+    same-length
+    returns
     plan-at-requires
     mul-end
     shared-slice-read-end
@@ -183,5 +222,5 @@ write-moved-spec =
     add-i
     loop-less
     loop-again
-    same-length
-    returns)
+    same-length-2
+    returns-2)

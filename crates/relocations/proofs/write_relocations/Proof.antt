@@ -21,9 +21,9 @@ dues-after-requires c κs = search needs
 
 write-moved-requires : tie.Need-write-moved-requires
 write-moved-requires c κs =
-    let start = c .before .before .before .before .before .before .before .before .before .before in
-    let all = c .before .before .before .before .relocation-count .ensures in
-    let other = c .before .before .before .if1 .left in (
+    let start = c .before .before .before .before .before .before .before .before .before .before .before in
+    let all = c .before .before .before .before .before .relocation-count .ensures in
+    let other = c .before .before .before .before .if1 .left in (
       start .pre .0,
       (
         start .pre .1 .0,
@@ -42,9 +42,9 @@ same-length c = search needs
 
 returns-2 : tie.Need-returns-2
 returns-2 c =
-    let start = c .before .before .before .before .before .before .before .before .before .before .before .before .before .before in
+    let start = c .before .before .before .before .before .before .before .before .before .before .before .before .before .before .before in
     let written = c .before .before .before .write-moved in (
-      page-left (start .args .first) _ _ _ (c .before .before .before .before .before .before .before .before .relocation-count .ensures)
+      page-left (start .args .first) _ _ _ (c .before .before .before .before .before .before .before .before .before .relocation-count .ensures)
           (le-trans (c .if2 .taken) (le-of-eq (ap (λ n. n / 5) (written .kept .1 .1 .1 .1 .1 .1 .1 .1 .1 .0)))),
       written .ensures,
     )
@@ -57,10 +57,10 @@ same-length-2 c = search needs
 
 returns-3 : tie.Need-returns-3
 returns-3 c =
-    let start = c .before .before .before .before .before .before .before .before .before .before .before .before .before .before in
+    let start = c .before .before .before .before .before .before .before .before .before .before .before .before .before .before .before in
     let written = c .before .before .before .write-moved in
     let room = ap (λ n. n / 5) (written .kept .1 .1 .1 .1 .1 .1 .1 .1 .1 .0) in (
-      room ∙ page-room (start .args .first) _ _ _ (c .before .before .before .before .before .before .before .before .relocation-count .ensures) (rw room at (c .if2 .left)),
+      room ∙ page-room (start .args .first) _ _ _ (c .before .before .before .before .before .before .before .before .before .relocation-count .ensures) (rw room at (c .if2 .left)),
       written .ensures,
     )
 

@@ -1,21 +1,28 @@
--- `soundness::blocks_wrong` meets its contract. The loop's invariant: the blocks of the first i intervals are below G. Assumes nothing.
-use Prim.Native.Nat.{ℕ, _≤_, _<_, _-_}
-use mathlib.Core.Path.{sym}
+-- `soundness::blocks_wrong` meets its contract. The loop's invariant: `wrong` says whether a block of the first i intervals is
+-- not below G. Assumes nothing.
+use Prim.Native.Nat.{_≤_, _-_}
+use mathlib.Core.Path.{_≡_, refl, _∙_}
+use mathlib.Core.Bool.{not}
+use mathlib.Core.Logic.{⊎-elim}
 use native.Mathlib.Omega.{arith}
+use lib.Dec.{ltb}
 use lib.ListN.{getD}
-use borrow.Author.Count.{below-none, below-more}
-use Rattle.model.proofs.Rules.{blocks-right, blocks-fail}
+use borrow.Author.Tests.{lt-ltb, le-ltb}
+use Rattle.model.specs.Basics.{all}
+use Rattle.model.specs.Refusal.{blocksWrong}
+use Rattle.soundness.proofs.Flags.{wrong-set, wrong-kept}
 use Rattle.soundness.proofs.blocks_wrong.Statement.{statement}
 use Rattle.soundness.proofs.blocks_wrong.Tie as tie
 
 abbrev Inv-loop : tie.InvT-loop
-Inv-loop h blocks i₀ i = (i ≤ h .«interval_count») × ((k : ℕ) → k < i → getD blocks k 0 < h .«block_count»)
+Inv-loop h blocks wrong₀ i₀ wrong i = (i ≤ h .«interval_count») × (wrong ≡ not (all (λ k. ltb (getD blocks k 0) (h .«block_count»)) i))
 
 abbrev μ-loop : tie.MeasureT-loop
-μ-loop h blocks i₀ i = h .«interval_count» - i
+μ-loop h blocks wrong₀ i₀ wrong i = h .«interval_count» - i
 
 loop-holds : tie.Need-loop-holds Inv-loop μ-loop
-loop-holds c = (omega arith, below-none _)
+unfolding all
+loop-holds c = (omega arith, refl)
 
 cast-if1 : tie.Need-cast-if1 Inv-loop μ-loop
 cast-if1 c = omega arith
@@ -26,9 +33,6 @@ mul-if2 c = omega arith
 shared-slice-read-if2 : tie.Need-shared-slice-read-if2 Inv-loop μ-loop
 shared-slice-read-if2 c = omega arith
 
-returns : tie.Need-returns Inv-loop μ-loop
-returns c = sym (blocks-fail _ _ (c .before .before .before .before .before .loop .i) (omega arith) (c .if2 .taken))
-
 add-i : tie.Need-add-i Inv-loop μ-loop
 add-i c = omega arith
 
@@ -36,12 +40,31 @@ loop-less : tie.Need-loop-less Inv-loop μ-loop
 loop-less c = omega arith
 
 loop-again : tie.Need-loop-again Inv-loop μ-loop
-loop-again c = (omega arith, below-more _ _ (c .before .before .before .before .before .loop .inv .1) (c .if2 .left))
+loop-again c = (
+  omega arith,
+  ⊎-elim
+      (λ w. w .1 ∙ wrong-set _ _ (le-ltb _ _ (w .0 .taken)))
+      (λ w. w .1 ∙ wrong-kept _ _ _ (c .before .before .before .before .before .loop .inv .1) (lt-ltb _ _ (w .0 .left)))
+      (c .if2 .came),
+)
 
-returns-2 : tie.Need-returns-2 Inv-loop μ-loop
-returns-2 c = sym (blocks-right _ _ (λ k l. c .before .before .loop .inv .1 k (omega arith)))
+returns : tie.Need-returns Inv-loop μ-loop
+unfolding blocksWrong
+returns c =
+    let same : c .before .before .loop .i ≡ c .before .before .before .args .h .«interval_count» = omega arith in
+    rw same at (c .before .before .loop .inv .1)
 
 pub blocks-wrong-spec : {M : Type 1} → statement M
 blocks-wrong-spec =
     tie.close
-    (tie.spec Inv-loop μ-loop loop-holds cast-if1 mul-if2 shared-slice-read-if2 returns add-i loop-less loop-again returns-2)
+    (tie.spec
+    Inv-loop
+    μ-loop
+    loop-holds
+    cast-if1
+    mul-if2
+    shared-slice-read-if2
+    add-i
+    loop-less
+    loop-again
+    returns)

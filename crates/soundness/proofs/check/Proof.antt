@@ -1,6 +1,6 @@
 -- `soundness::check` meets its contract: each return from the tests on the way to it, and each rule's function is called with
 -- what the rules before it have shown. Assumes nothing.
-use mathlib.Core.Path.{_≡_, sym, _∙_}
+use mathlib.Core.Path.{_≡_, refl, sym, _∙_}
 use mathlib.Core.Bool.{false}
 use borrow.Author.Needs.{needs}
 use Rattle.model.specs.Basics.{_or_}
@@ -47,11 +47,8 @@ at4 c = at3 (c .before .before)
 abbrev at5 : tie.Else5 → tie.Start
 at5 c = at4 (c .before .before)
 
-abbrev at6 : tie.Else6 → tie.Start
-at6 c = at5 (c .before .before)
-
-abbrev at7 : tie.Else7 → tie.Start
-at7 c = at6 (c .before .before)
+abbrev at6 : tie.After-holdings-wrong → tie.Start
+at6 c = at5 (c .before .before .before .before)
 
 -- the rules passed on the way
 header-pass : (c : tie.Else1) → headerOutside (h (at1 c)) ≡ false
@@ -72,11 +69,13 @@ ends-pass c = sym (c .before .ends-wrong .ensures) ∙ c .if4 .left
 blocks-pass : (c : tie.Else5) → blocksWrong (h (at5 c)) (a (at5 c) .blocks) ≡ false
 blocks-pass c = sym (c .before .blocks-wrong .ensures) ∙ c .if5 .left
 
-holdings-pass : (c : tie.Else6) → holdingsWrong (h (at6 c)) (a (at6 c)) ≡ false
-holdings-pass c = holdings-same _ _ _ _ _ _ ∙ sym (c .before .holdings-wrong .ensures) ∙ c .if6 .left
+-- what the test of 15 and the flag of 16 say
+holdings-said : (c : tie.After-holdings-wrong) → c .holdings-wrong .result ≡ holdingsWrong (h (at6 c)) (a (at6 c))
+holdings-said c = c .holdings-wrong .ensures _ _ (c .before .before .walked .ensures .0) ∙ holdings-same _ _ _ _ _ _
 
-adjustments-pass : (c : tie.Else7) → adjustmentsWrong (h (at7 c)) (a (at7 c)) ≡ false
-adjustments-pass c = adjustments-same _ _ _ _ _ _ ∙ sym (c .before .adjustments-wrong .ensures) ∙ c .if7 .left
+adjustments-said
+    : (c : tie.After-holdings-wrong) → c .before .before .walked .result ≡ adjustmentsWrong (h (at6 c)) (a (at6 c))
+adjustments-said c = c .before .before .walked .ensures .1 ∙ adjustments-same _ _ _ _ _ _
 
 tops-done : (c : tie.Else3) → TopsRight (h (at3 c)) (a (at3 c) .tops)
 tops-done c = tops-right _ _ (header-pass (c .before .before .before .before)) (short-pass (c .before .before)) (tops-pass c)
@@ -140,44 +139,44 @@ returns-5 c =
     ∙ first-skip _ _ (ends-pass (c .before .before))
     ∙ first-here _ _ (sym (c .before .blocks-wrong .ensures) ∙ c .if5 .taken))
 
+walked-requires : tie.Need-walked-requires
+walked-requires c κs =
+    (intervals-done (c .before), adjustments-long _ _ (short-pass (c .before .before .before .before .before .before .before)), refl)
+
 holdings-wrong-requires : tie.Need-holdings-wrong-requires
-holdings-wrong-requires c κs = (tops-done (c .before .before .before .before), intervals-done c)
+holdings-wrong-requires c κs = tops-done (c .before .before .before .before .before .before .before)
 
 returns-6 : tie.Need-returns-6
 unfolding tableTests
 returns-6 c =
     sym
-    (first-skip _ _ (sizes-pass (c .before .before .before .before .before .before .before .before))
-    ∙ first-skip _ _ (tops-pass (c .before .before .before .before .before .before))
-    ∙ first-skip _ _ (ends-pass (c .before .before .before .before))
-    ∙ first-skip _ _ (blocks-pass (c .before .before))
-    ∙ first-here _ _ (holdings-same _ _ _ _ _ _ ∙ sym (c .before .holdings-wrong .ensures) ∙ c .if6 .taken))
-
-adjustments-wrong-requires : tie.Need-adjustments-wrong-requires
-adjustments-wrong-requires c κs =
-    (intervals-done (c .before .before), adjustments-long _ _ (short-pass (c .before .before .before .before .before .before .before .before)))
+    (first-skip _ _ (sizes-pass (c .before .before .before .before .before .before .before .before .before .before .before))
+    ∙ first-skip _ _ (tops-pass (c .before .before .before .before .before .before .before .before .before))
+    ∙ first-skip _ _ (ends-pass (c .before .before .before .before .before .before .before))
+    ∙ first-skip _ _ (blocks-pass (c .before .before .before .before .before))
+    ∙ first-here _ _ (sym (holdings-said (c .before)) ∙ c .if6 .taken))
 
 returns-7 : tie.Need-returns-7
 unfolding tableTests
 returns-7 c =
     sym
-    (first-skip _ _ (sizes-pass (c .before .before .before .before .before .before .before .before .before .before))
-    ∙ first-skip _ _ (tops-pass (c .before .before .before .before .before .before .before .before))
-    ∙ first-skip _ _ (ends-pass (c .before .before .before .before .before .before))
-    ∙ first-skip _ _ (blocks-pass (c .before .before .before .before))
-    ∙ first-skip _ _ (holdings-pass (c .before .before))
-    ∙ first-here _ _ (adjustments-same _ _ _ _ _ _ ∙ sym (c .before .adjustments-wrong .ensures) ∙ c .if7 .taken))
+    (first-skip _ _ (sizes-pass (c .before .before .before .before .before .before .before .before .before .before .before .before))
+    ∙ first-skip _ _ (tops-pass (c .before .before .before .before .before .before .before .before .before .before))
+    ∙ first-skip _ _ (ends-pass (c .before .before .before .before .before .before .before .before))
+    ∙ first-skip _ _ (blocks-pass (c .before .before .before .before .before .before))
+    ∙ first-skip _ _ (sym (holdings-said (c .before .before)) ∙ c .before .if6 .left)
+    ∙ first-here _ _ (sym (adjustments-said (c .before .before)) ∙ c .if7 .taken))
 
 returns-8 : tie.Need-returns-8
 unfolding tableTests
 returns-8 c =
     sym
-    (first-skip _ _ (sizes-pass (c .before .before .before .before .before .before .before .before .before .before))
-    ∙ first-skip _ _ (tops-pass (c .before .before .before .before .before .before .before .before))
-    ∙ first-skip _ _ (ends-pass (c .before .before .before .before .before .before))
-    ∙ first-skip _ _ (blocks-pass (c .before .before .before .before))
-    ∙ first-skip _ _ (holdings-pass (c .before .before))
-    ∙ first-skip _ _ (adjustments-pass c)
+    (first-skip _ _ (sizes-pass (c .before .before .before .before .before .before .before .before .before .before .before .before))
+    ∙ first-skip _ _ (tops-pass (c .before .before .before .before .before .before .before .before .before .before))
+    ∙ first-skip _ _ (ends-pass (c .before .before .before .before .before .before .before .before))
+    ∙ first-skip _ _ (blocks-pass (c .before .before .before .before .before .before))
+    ∙ first-skip _ _ (sym (holdings-said (c .before .before)) ∙ c .before .if6 .left)
+    ∙ first-skip _ _ (sym (adjustments-said (c .before .before)) ∙ c .if7 .left)
     ∙ first-none)
 
 pub check-spec : {M : Type 1} → statement M
@@ -194,8 +193,8 @@ check-spec =
     returns-4
     blocks-wrong-requires
     returns-5
+    walked-requires
     holdings-wrong-requires
     returns-6
-    adjustments-wrong-requires
     returns-7
     returns-8)

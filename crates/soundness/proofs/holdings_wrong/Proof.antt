@@ -15,16 +15,13 @@ use Rattle.soundness.proofs.holdings_wrong.Statement.{statement}
 use Rattle.soundness.proofs.holdings_wrong.Tie as tie
 
 abbrev Inv-loop : tie.InvT-loop
-Inv-loop h tops ends blocks sums bins quotient remainder below₀ j₀ below j =
+Inv-loop h tops sums bins quotient remainder below₀ j₀ below j =
     (j ≤ h .«block_count»)
     × (below ≡ dueBelow (lentShape h tops) (before tops j))
     × ((m : ℕ) → m < j → getD sums m 0 ≡ dueOfBlock (lentShape h tops) tops m)
 
 abbrev μ-loop : tie.MeasureT-loop
-μ-loop h tops ends blocks sums bins quotient remainder below₀ j₀ below j = h .«block_count» - j
-
-holdings-requires : tie.Need-holdings-requires Inv-loop μ-loop
-holdings-requires c κs = c .before .before .before .pre .1
+μ-loop h tops sums bins quotient remainder below₀ j₀ below j = h .«block_count» - j
 
 cast-bins : tie.Need-cast-bins Inv-loop μ-loop
 cast-bins c = omega arith
@@ -39,10 +36,10 @@ shared-slice-read-bins : tie.Need-shared-slice-read-bins Inv-loop μ-loop
 shared-slice-read-bins c = omega arith
 
 div-quotient : tie.Need-div-quotient Inv-loop μ-loop
-div-quotient c = bins-some _ _ (c .before .before .before .before .before .before .before .pre .0)
+div-quotient c = bins-some _ _ (c .before .before .before .before .pre)
 
 rem-remainder : tie.Need-rem-remainder Inv-loop μ-loop
-rem-remainder c = bins-some _ _ (c .before .before .before .before .before .before .before .before .pre .0)
+rem-remainder c = bins-some _ _ (c .before .before .before .before .before .pre)
 
 loop-holds : tie.Need-loop-holds Inv-loop μ-loop
 loop-holds c = (omega arith, sym (due-none _ _), below-none _)
@@ -59,37 +56,32 @@ shared-slice-read-due-below c = omega arith
 due-below-requires : tie.Need-due-below-requires Inv-loop μ-loop
 unfolding dueBelow
 due-below-requires c κs =
-    let start = c .before .before .before .before .before .before .before .before .before .before .before .before in
-    let t = due-turn _ _ (start .pre .0) (c .before .before .before .loop .j) (omega arith) in
+    let t = due-turn _ _ (c .before .before .before .before .before .before .before .before .before .pre) (c .before .before .before .loop .j) (omega arith) in
     omega arith
 
 mul-if2 : tie.Need-mul-if2 Inv-loop μ-loop
 mul-if2 c = omega arith
 
-array-read-if2 : tie.Need-array-read-if2 Inv-loop μ-loop
-array-read-if2 c = omega arith
+element-copy-out-if2 : tie.Need-element-copy-out-if2 Inv-loop μ-loop
+element-copy-out-if2 c = omega arith
 
 sub-if2 : tie.Need-sub-if2 Inv-loop μ-loop
 unfolding dueBelow
 sub-if2 c =
-    let start = c .before .before .before .before .before .before .before .before .before .before .before .before .before in
-    let t = due-turn _ _ (start .pre .0) (c .before .before .before .before .loop .j) (omega arith) in
-    omega (arith, c .due-below .ensures)
+    let t = due-turn _ _ (c .before .before .before .before .before .before .before .before .before .before .before .pre) (c .before .before .before .before .before .loop .j) (omega arith) in
+    omega (arith, c .before .due-below .ensures)
 
 returns : tie.Need-returns Inv-loop μ-loop
 unfolding dueBelow
-returns c =
-    let start = c .before .before .before .before .before .before .before .before .before .before .before .before .before .before in
-    let j = c .before .before .before .before .before .loop .j in
-    let t = due-turn _ _ (start .pre .0) j (omega arith) in
+returns c ends blocks sums =
+    let tops = c .before .before .before .before .before .before .before .before .before .before .before .before .pre in
+    let j = c .before .before .before .before .before .before .loop .j in
+    let t = due-turn _ _ tops j (omega arith) in
     sym
-    (holdings-fail _ _ (start .pre .0 .some) (start .pre .0 .long) j (omega arith)
+    (holdings-fail _ _ (tops .some) (tops .long) j (omega arith)
     (λ e.
     c .if2 .taken
-    (c .before .before .before .before .before .before .before .before .before .before .holdings .ensures j (omega arith)
-    ∙ held-same _ _ _ _ _ _ _ j _
-    ∙ e
-    ∙ omega (arith, c .before .due-below .ensures))))
+    (sums .cell j (omega arith) ∙ held-same _ _ _ _ _ _ _ j _ ∙ e ∙ omega (arith, c .before .before .due-below .ensures))))
 
 add-j : tie.Need-add-j Inv-loop μ-loop
 add-j c = omega arith
@@ -100,22 +92,18 @@ loop-less c = omega arith
 loop-again : tie.Need-loop-again Inv-loop μ-loop
 unfolding dueBelow
 loop-again c =
-    let start = c .before .before .before .before .before .before .before .before .before .before .before .before .before .before in
-    let t = due-turn _ _ (start .pre .0) (c .before .before .before .before .before .loop .j) (omega arith) in (
+    let t = due-turn _ _ (c .before .before .before .before .before .before .before .before .before .before .before .before .pre) (c .before .before .before .before .before .before .loop .j) (omega arith) in (
       omega arith,
-      rw before-next (c .before .due-below .ensures),
-      below-more _ _ (c .before .before .before .before .before .loop .inv .2) (omega (arith, c .before .due-below .ensures, c .if2 .left)),
+      rw before-next (c .before .before .due-below .ensures),
+      below-more _ _ (c .before .before .before .before .before .before .loop .inv .2) (omega (arith, c .before .before .due-below .ensures, c .if2 .left)),
     )
 
 returns-2 : tie.Need-returns-2 Inv-loop μ-loop
-returns-2 c =
-    let start = c .before .before .before .before .before .before .before .before .before .before .before in
+returns-2 c ends blocks sums =
+    let tops = c .before .before .before .before .before .before .before .before .pre in
     sym
-    (holdings-right _ _ (start .pre .0 .some) (start .pre .0 .long)
-    (λ j l.
-    held-same _ _ _ _ _ _ _ j _
-    ∙ sym (c .before .before .before .before .before .before .before .holdings .ensures j (omega arith))
-    ∙ c .before .before .loop .inv .2 j (omega arith)))
+    (holdings-right _ _ (tops .some) (tops .long)
+    (λ j l. held-same _ _ _ _ _ _ _ j _ ∙ sym (sums .cell j (omega arith)) ∙ c .before .before .loop .inv .2 j (omega arith)))
 
 pub holdings-wrong-spec : {M : Type 1} → statement M
 holdings-wrong-spec =
@@ -123,7 +111,6 @@ holdings-wrong-spec =
     (tie.spec
     Inv-loop
     μ-loop
-    holdings-requires
     cast-bins
     sub-bins
     mul-bins
@@ -136,7 +123,7 @@ holdings-wrong-spec =
     shared-slice-read-due-below
     due-below-requires
     mul-if2
-    array-read-if2
+    element-copy-out-if2
     sub-if2
     returns
     add-j

@@ -3,7 +3,7 @@ use Prim.Native.Nat.{_-_, _*_, _≤_}
 use mathlib.Core.Path.{_≡_, refl}
 use native.Mathlib.Omega.{arith}
 use Rattle.model.specs.Basics.{from, joined}
-use Rattle.print.proofs.Stores.{Put, put-none, put-length, put-more}
+use Rattle.model.proofs.Entries.{Put, put-none, put-length, put-more}
 use Rattle.console.specs.Listing.{moveText, rowsIn}
 use Rattle.console.proofs.Rows.{row-at, text-next, text-short}
 use Rattle.console.proofs.list.put_rows.Statement.{statement}
@@ -83,7 +83,7 @@ loop-again c =
       omega arith,
       omega arith,
       rw (text-next rows (turn .i), row-at rows (turn .i) (turn .row) (turn .inv .1))
-          (put-more (turn .inv .2) _ (stored .ensures .0) (stored .ensures .1)),
+          (put-more (turn .inv .2) _ (stored .ensures .1) (stored .ensures .0)),
     )
 
 same-length : tie.Need-same-length Inv-loop μ-loop
@@ -94,7 +94,7 @@ returns c =
     let turn = c .before .loop in
     let all : turn .i ≡ c .before .before .before .before .args .count = omega arith in
     let p = rw all at (turn .inv .2) in
-    (omega (arith, p .place), p .bytes)
+    (omega (arith, p .place), p .holds)
 
 pub put-rows-spec : {M : Type 1} → statement M
 put-rows-spec =

@@ -1,22 +1,28 @@
--- `file::load::blocks_wrong` meets its contract. The loop's invariant: the blocks of the first i intervals are below G.
--- Assumes nothing.
-use Prim.Native.Nat.{ℕ, _-_, _≤_, _<_}
-use mathlib.Core.Path.{_≡_, sym, _∙_}
+-- `file::load::blocks_wrong` meets its contract. The loop's invariant: `wrong` says whether a block of the first i intervals is
+-- not below G. Assumes nothing.
+use Prim.Native.Nat.{_-_, _≤_}
+use mathlib.Core.Path.{_≡_, refl, sym, _∙_}
+use mathlib.Core.Logic.{⊎-elim}
+use mathlib.Core.Bool.{not}
 use native.Mathlib.Omega.{arith}
+use lib.Dec.{ltb}
 use lib.ListN.{getD}
-use borrow.Author.Count.{below-none, below-more}
+use borrow.Author.Tests.{lt-ltb, le-ltb}
+use Rattle.model.specs.Basics.{all}
+use Rattle.model.specs.Refusal.{blocksWrong}
 use Rattle.model.proofs.Tables.{getD-from}
-use Rattle.model.proofs.Rules.{blocks-right, blocks-fail}
+use Rattle.soundness.proofs.Flags.{wrong-set, wrong-kept}
 use Rattle.file.specs.Counted.{fileArrays}
 use Rattle.file.proofs.load.blocks_wrong.Statement.{statement}
 use Rattle.file.proofs.load.blocks_wrong.Tie as tie
 
 abbrev Inv-loop : tie.InvT-loop
-Inv-loop h f count first i₀ i =
-    (i ≤ h .«interval_count») × ((k : ℕ) → k < i → getD (fileArrays f h .blocks) k 0 < h .«block_count»)
+Inv-loop h f count first wrong₀ i₀ wrong i =
+    (i ≤ h .«interval_count»)
+    × (wrong ≡ not (all (λ k. ltb (getD (fileArrays f h .blocks) k 0) (h .«block_count»)) i))
 
 abbrev μ-loop : tie.MeasureT-loop
-μ-loop h f count first i₀ i = h .«interval_count» - i
+μ-loop h f count first wrong₀ i₀ wrong i = h .«interval_count» - i
 
 cast-count : tie.Need-cast-count Inv-loop μ-loop
 cast-count c = omega arith
@@ -31,7 +37,8 @@ add-first-2 : tie.Need-add-first-2 Inv-loop μ-loop
 add-first-2 c = omega arith
 
 loop-holds : tie.Need-loop-holds Inv-loop μ-loop
-loop-holds c = (omega arith, below-none _)
+unfolding all
+loop-holds c = (omega arith, refl)
 
 add-number-at : tie.Need-add-number-at Inv-loop μ-loop
 add-number-at c = omega arith
@@ -49,11 +56,6 @@ here
     ≡ getD (fileArrays (start c .args .f .now) (start c .args .h) .blocks) (c .before .before .loop .i) 0
 here c = c .number-at .ensures ∙ sym (getD-from _ _ _ _ 0 (c .before .loop-test .taken))
 
-returns : tie.Need-returns Inv-loop μ-loop
-returns c =
-    let x = here (c .before .before) in
-    sym (blocks-fail _ _ (c .before .before .before .before .loop .i) (omega arith) (omega arith))
-
 add-i : tie.Need-add-i Inv-loop μ-loop
 add-i c = omega arith
 
@@ -62,11 +64,19 @@ loop-less c = omega arith
 
 loop-again : tie.Need-loop-again Inv-loop μ-loop
 loop-again c =
-    let x = here (c .before .before) in
-    (omega arith, below-more _ _ (c .before .before .before .before .loop .inv .1) (omega arith))
+    let x = here (c .before .before) in (
+      omega arith,
+      ⊎-elim
+          (λ w. w .1 ∙ wrong-set _ _ (le-ltb _ _ (rw x at (w .0 .taken))))
+          (λ w. w .1 ∙ wrong-kept _ _ _ (c .before .before .before .before .loop .inv .1) (lt-ltb _ _ (rw x at (w .0 .left))))
+          (c .if1 .came),
+    )
 
-returns-2 : tie.Need-returns-2 Inv-loop μ-loop
-returns-2 c = sym (blocks-right _ _ (λ k l. c .before .loop .inv .1 k (omega arith)))
+returns : tie.Need-returns Inv-loop μ-loop
+unfolding blocksWrong
+returns c =
+    let same : c .before .loop .i ≡ c .before .before .before .before .before .args .h .«interval_count» = omega arith in
+    rw same at (c .before .loop .inv .1)
 
 pub blocks-wrong-spec : {M : Type 1} → statement M
 blocks-wrong-spec =
@@ -81,8 +91,7 @@ blocks-wrong-spec =
     loop-holds
     add-number-at
     number-at-requires
-    returns
     add-i
     loop-less
     loop-again
-    returns-2)
+    returns)

@@ -1,29 +1,29 @@
--- `file::load::rising` meets its contract. The loop's invariant: the first i numbers rise, and `last` is the one before place i.
--- Assumes nothing.
+-- `file::load::rising` meets its contract. The loop's invariant: `ok` says whether the first i numbers rise, and `last` is the
+-- one before place i. Assumes nothing.
 use Prim.Native.Nat.{_-_, _≤_}
-use mathlib.Core.Path.{_≡_, refl, sym, _∙_, subst}
+use mathlib.Core.Path.{_≡_, refl, sym, _∙_}
+use mathlib.Core.Logic.{⊎-elim}
 use native.Mathlib.Omega.{arith}
 use lib.ListN.{getD}
-use borrow.Author.Count.{below-none, below-more}
-use Rattle.model.specs.Basics.{from, before}
+use Rattle.model.specs.Basics.{all, from, before}
+use Rattle.model.specs.Refusal.{rises}
 use Rattle.model.specs.Saved.{number}
-use Rattle.model.proofs.Intervals.{Rising}
 use Rattle.model.proofs.Tables.{getD-from}
-use Rattle.model.proofs.Soundness.{rises-holds}
-use Rattle.model.proofs.Rules.{before-next, rises-fails}
+use Rattle.model.proofs.Rules.{before-next}
+use Rattle.soundness.proofs.Flags.{rises-cleared, rises-kept}
 use Rattle.file.proofs.load.rising.Statement.{statement}
 use Rattle.file.proofs.load.rising.Tie as tie
 
 abbrev Inv-loop : tie.InvT-loop
-Inv-loop f first count last₀ i₀ last i =
-    (i ≤ count) × (last ≡ before (from (number f) first count) i) × Rising (from (number f) first count) i
+Inv-loop f first count ok₀ last₀ i₀ ok last i =
+    (i ≤ count) × (last ≡ before (from (number f) first count) i) × (ok ≡ rises (from (number f) first count) i)
 
 abbrev μ-loop : tie.MeasureT-loop
-μ-loop f first count last₀ i₀ last i = count - i
+μ-loop f first count ok₀ last₀ i₀ ok last i = count - i
 
 loop-holds : tie.Need-loop-holds Inv-loop μ-loop
-unfolding before
-loop-holds c = (omega arith, refl, below-none _)
+unfolding before rises all
+loop-holds c = (omega arith, refl, refl)
 
 add-number-at : tie.Need-add-number-at Inv-loop μ-loop
 add-number-at c = omega arith
@@ -41,11 +41,6 @@ here
     ≡ getD (from (number (start c .args .f .now)) (start c .args .first) (start c .args .count)) (c .before .before .loop .i) 0
 here c = c .number-at .ensures ∙ sym (getD-from _ _ _ _ 0 (c .before .loop-test .taken))
 
-returns : tie.Need-returns Inv-loop μ-loop
-returns c =
-    let x = here (c .before) in
-    sym (rises-fails _ _ (c .before .before .before .loop .i) (omega arith) (omega arith))
-
 add-i : tie.Need-add-i Inv-loop μ-loop
 add-i c = omega arith
 
@@ -54,13 +49,19 @@ loop-less c = omega arith
 
 loop-again : tie.Need-loop-again Inv-loop μ-loop
 loop-again c =
-    let x = here (c .before) in
-    (omega arith, rw before-next x, below-more _ _ (c .before .before .before .loop .inv .2) (omega arith))
+    let x = here (c .before) in (
+      omega arith,
+      rw before-next x,
+      ⊎-elim
+          (λ w. w .1 ∙ rises-cleared _ _ (let t = w .0 in omega arith))
+          (λ w. w .1 ∙ rises-kept _ _ _ (c .before .before .before .loop .inv .2) (let t = w .0 in omega arith))
+          (c .if1 .came),
+    )
 
-returns-2 : tie.Need-returns-2 Inv-loop μ-loop
-returns-2 c =
-    let all : c .before .loop .i ≡ c .before .before .before .args .count = omega arith in
-    sym (rises-holds _ _ (subst (Rising _) all (c .before .loop .inv .2)))
+returns : tie.Need-returns Inv-loop μ-loop
+returns c =
+    let same : c .before .loop .i ≡ c .before .before .before .args .count = omega arith in
+    rw same at (c .before .loop .inv .2)
 
 pub rising-spec : {M : Type 1} → statement M
 rising-spec =
@@ -71,8 +72,7 @@ rising-spec =
     loop-holds
     add-number-at
     number-at-requires
-    returns
     add-i
     loop-less
     loop-again
-    returns-2)
+    returns)

@@ -8,8 +8,8 @@ use Rattle.model.specs.Basics.{from}
 use Rattle.model.specs.Table.{over}
 use Rattle.model.specs.Refusal.{adjustmentOf}
 use Rattle.model.proofs.Holdings.{Sums, sums-none}
+use Rattle.model.proofs.Entries.{Put, put-none, put-length, put-next, put-over}
 use Rattle.file.specs.Counted.{fileArrays}
-use Rattle.file.proofs.Stores.{Filled, filled-none, filled-length, filled-next, filled-over}
 use Rattle.file.proofs.Walk.{Turn, turn}
 use Rattle.file.proofs.load.write_adjustments.Statement.{statement}
 use Rattle.file.proofs.load.write_adjustments.Tie as tie
@@ -18,7 +18,7 @@ abbrev Inv-loop : tie.InvT-loop
 Inv-loop h f adjustments₀ first-end first-block sums₀ start₀ i₀ adjustments sums start i =
     (i ≤ h .«interval_count»)
     × Sums h (fileArrays f h) i start sums
-    × Filled 0 i (from (adjustmentOf h (fileArrays f h)) 0 i) adjustments₀ adjustments
+    × Put 0 i (from (adjustmentOf h (fileArrays f h)) 0 i) adjustments₀ adjustments
 
 abbrev μ-loop : tie.MeasureT-loop
 μ-loop h f adjustments₀ first-end first-block sums₀ start₀ i₀ adjustments sums start i = h .«interval_count» - i
@@ -37,7 +37,7 @@ add-first-block c = omega arith
 
 loop-holds : tie.Need-loop-holds Inv-loop μ-loop
 unfolding from
-loop-holds c = (omega arith, sums-none _ _, filled-none 0 _ (omega arith))
+loop-holds c = (omega arith, sums-none _ _, put-none 0 _)
 
 cast-if1 : tie.Need-cast-if1 Inv-loop μ-loop
 cast-if1 c = omega arith
@@ -81,10 +81,10 @@ sub-adjustments : tie.Need-sub-adjustments Inv-loop μ-loop
 sub-adjustments c = let t = here c in omega arith
 
 mul-adjustments-2 : tie.Need-mul-adjustments-2 Inv-loop μ-loop
-mul-adjustments-2 c = omega (arith, filled-length (walk c .loop .inv .2))
+mul-adjustments-2 c = omega (arith, put-length (walk c .loop .inv .2))
 
 slice-write-adjustments : tie.Need-slice-write-adjustments Inv-loop μ-loop
-slice-write-adjustments c = omega (arith, filled-length (walk c .loop .inv .2))
+slice-write-adjustments c = omega (arith, put-length (walk c .loop .inv .2))
 
 sub-sums : tie.Need-sub-sums Inv-loop μ-loop
 sub-sums c = let t = here c in omega arith
@@ -112,17 +112,17 @@ loop-again c =
     let t = here c in (
       omega arith,
       t .next _ (omega arith),
-      filled-next _ 0 _ (walk c .loop .inv .2) (omega arith) (rw zero-add (omega arith)),
+      put-next _ 0 _ (walk c .loop .inv .2) (rw zero-add (omega arith)),
     )
 
 same-length : tie.Need-same-length Inv-loop μ-loop
-same-length c = filled-length (c .before .before .loop .inv .2)
+same-length c = put-length (c .before .before .loop .inv .2)
 
 returns : tie.Need-returns Inv-loop μ-loop
 returns c =
     let begun = c .before .before .before .before .before .before .before .args in
     let all : c .before .before .loop .i ≡ begun .h .«interval_count» = omega arith in
-    filled-over (c .before .before .loop .inv .2)
+    put-over (c .before .before .loop .inv .2) (omega arith)
     ∙ ap (λ i. over (from (adjustmentOf (begun .h) (fileArrays (begun .f .now) (begun .h))) 0 i) (begun .adjustments .now)) all
 
 pub write-adjustments-spec : {M : Type 1} → statement M

@@ -1,9 +1,10 @@
 -- `file::number::put_number` meets its contract: four stores are one. Assumes nothing.
+use Prim.Native.Nat.{suc, _+_}
+use mathlib.Core.Path.{_≡_}
 use native.Mathlib.Omega.{arith}
 use lib.ListN.{length-set}
 use borrow.Author.Needs.{needs}
 use Rattle.model.specs.Saved.{bytesOf}
-use Rattle.file.proofs.Stores.{over-four}
 use Rattle.file.proofs.number.put_number.Statement.{statement}
 use Rattle.file.proofs.number.put_number.Tie as tie
 
@@ -45,7 +46,12 @@ same-length c = search needs
 
 returns : tie.Need-returns
 unfolding bytesOf
-returns c = over-four _ _ _ _ _ _ (c .pre)
+returns c =
+    let at = c .args .at in
+    let one : at + 1 ≡ suc at = omega arith in
+    let two : at + 2 ≡ suc (suc at) = omega arith in
+    let three : at + 3 ≡ suc (suc (suc at)) = omega arith in
+    rw (one, two, three)
 
 pub put-number-spec : {M : Type 1} → statement M
 put-number-spec =

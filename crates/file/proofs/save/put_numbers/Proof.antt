@@ -5,24 +5,24 @@ use mathlib.Core.Path.{_≡_, _∙_, ap}
 use native.Mathlib.Nat.{add-zero}
 use native.Mathlib.Omega.{arith}
 use lib.ListN.{length, take}
+use lib.Seq.{sets}
 use Rattle.model.specs.Basics.{joined}
 use Rattle.model.specs.Saved.{bytesOf}
 use Rattle.model.proofs.Bytes.{bytesOfAll, bytes-next}
-use Rattle.file.specs.Stored.{overAt}
-use Rattle.file.proofs.Stores.{Filled, filled-none, filled-length, filled-more}
+use Rattle.model.proofs.Entries.{Put, put-none, put-length, put-more}
 use Rattle.file.proofs.save.put_numbers.Statement.{statement}
 use Rattle.file.proofs.save.put_numbers.Tie as tie
 
 abbrev Inv-loop : tie.InvT-loop
 Inv-loop xs count out₀ at i₀ out i =
-    (i ≤ count) × Filled at (at + 4 * i) (bytesOfAll (take i xs)) out₀ out
+    (i ≤ count) × Put at (at + 4 * i) (bytesOfAll (take i xs)) out₀ out
 
 abbrev μ-loop : tie.MeasureT-loop
 μ-loop xs count out₀ at i₀ out i = count - i
 
 loop-holds : tie.Need-loop-holds Inv-loop μ-loop
 unfolding joined
-loop-holds c = (omega arith, rw add-zero (filled-none _ _ (omega arith)))
+loop-holds c = (omega arith, rw add-zero (put-none _ _))
 
 mul-put-number : tie.Need-mul-put-number Inv-loop μ-loop
 mul-put-number c = omega arith
@@ -37,7 +37,7 @@ shared-slice-read-put-number : tie.Need-shared-slice-read-put-number Inv-loop μ
 shared-slice-read-put-number c = omega arith
 
 put-number-requires : tie.Need-put-number-requires Inv-loop μ-loop
-put-number-requires c κs = omega (arith, filled-length (c .before .before .before .loop .inv .1))
+put-number-requires c κs = omega (arith, put-length (c .before .before .before .loop .inv .1))
 
 add-i : tie.Need-add-i Inv-loop μ-loop
 add-i c = omega arith
@@ -53,18 +53,18 @@ loop-again c =
     let inside : turn .i < length (start .args .xs .now) = omega arith in (
       omega arith,
       rw (bytes-next (start .args .xs .now) (turn .i))
-          (filled-more (turn .inv .1) _ _ _ (c .before .before .put-number .ensures) (omega arith) (omega arith)),
+          (put-more (turn .inv .1) _ (c .before .before .put-number .ensures) (omega arith)),
     )
 
 same-length : tie.Need-same-length Inv-loop μ-loop
-same-length c = filled-length (c .before .loop .inv .1)
+same-length c = put-length (c .before .loop .inv .1)
 
 returns : tie.Need-returns Inv-loop μ-loop
 returns c =
     let start = c .before .before .before .before in
     let all : c .before .loop .i ≡ start .args .count = omega arith in
     c .before .loop .inv .1 .holds
-    ∙ ap (λ i. overAt (start .args .at) (bytesOfAll (take i (start .args .xs .now))) (start .args .out .now)) all
+    ∙ ap (λ i. sets (start .args .out .now) (start .args .at) (bytesOfAll (take i (start .args .xs .now)))) all
 
 pub put-numbers-spec : {M : Type 1} → statement M
 put-numbers-spec =

@@ -3,12 +3,12 @@ use Prim.Native.Nat.{_+_, _*_, _≤_}
 use mathlib.Core.Path.{refl, sym, _∙_, ap}
 use mathlib.Core.List.{[]}
 use native.Mathlib.Omega.{arith}
-use lib.ListN.{length}
+use lib.ListN.{length, take}
 use borrow.Author.Needs.{needs}
 use Rattle.model.specs.Table.{arrays, over}
 use Rattle.model.specs.Saved.{bytesOf, savedLength}
-use Rattle.model.proofs.Bytes.{bytes-length, saved-parts}
-use Rattle.file.proofs.Stores.{filled-none, filled-more, filled-over}
+use Rattle.model.proofs.Bytes.{bytesOfAll, bytes-length, saved-parts}
+use Rattle.model.proofs.Entries.{put-none, put-more, put-over}
 use Rattle.file.proofs.save.write_saved.Statement.{statement}
 use Rattle.file.proofs.save.write_saved.Tie as tie
 
@@ -71,20 +71,19 @@ returns c =
     let old = start .args .out .now in
     let a = arrays (start .args .tops .now) (start .args .ends .now) (start .args .blocks .now) [] in
     let room : 12 + 4 * h .«block_count» + 8 * h .«interval_count» ≤ length old = start .pre .3 in
-    let s0 = filled-none 0 old (omega arith) in
-    let s1 = filled-more s0 4 _ _ (c1 .put-number .ensures) refl (omega arith) in
-    let s2 = filled-more s1 8 _ _ (c2 .put-number2 .ensures) refl (omega arith) in
-    let s3 = filled-more s2 12 _ _ (c3 .put-number3 .ensures) refl (omega arith) in
-    let s4 = filled-more s3 (12 + 4 * h .«block_count») _ _ (c4 .put-numbers .ensures)
-    (omega (arith, bytes-length (a .tops) (h .«block_count») (start .pre .0)))
-    (omega arith) in
-    let s5 = filled-more s4 (12 + 4 * h .«block_count» + 4 * h .«interval_count») _ _ (c5 .put-numbers2 .ensures)
-    (omega (arith, bytes-length (a .ends) (h .«interval_count») (start .pre .1)))
-    (omega arith) in
-    let s6 = filled-more s5 (12 + 4 * h .«block_count» + 8 * h .«interval_count») _ _ (c6 .put-numbers3 .ensures)
-    (omega (arith, bytes-length (a .blocks) (h .«interval_count») (start .pre .2)))
-    (omega arith) in
-    filled-over s6
+    let s1 = put-more (put-none 0 old) {o′ = 4} (bytesOf (h .buckets)) (c1 .put-number .ensures) refl in
+    let s2 = put-more s1 {o′ = 8} (bytesOf (h .«block_count»)) (c2 .put-number2 .ensures) refl in
+    let s3 = put-more s2 {o′ = 12} (bytesOf (h .«interval_count»)) (c3 .put-number3 .ensures) refl in
+    let s4 =
+    put-more s3 {o′ = 12 + 4 * h .«block_count»} (bytesOfAll (take (h .«block_count») (a .tops))) (c4 .put-numbers .ensures)
+    (omega (arith, bytes-length (a .tops) (h .«block_count») (start .pre .0))) in
+    let s5 =
+    put-more s4 {o′ = 12 + 4 * h .«block_count» + 4 * h .«interval_count»} (bytesOfAll (take (h .«interval_count») (a .ends))) (c5 .put-numbers2 .ensures)
+    (omega (arith, bytes-length (a .ends) (h .«interval_count») (start .pre .1))) in
+    let s6 =
+    put-more s5 {o′ = 12 + 4 * h .«block_count» + 8 * h .«interval_count»} (bytesOfAll (take (h .«interval_count») (a .blocks))) (c6 .put-numbers3 .ensures)
+    (omega (arith, bytes-length (a .blocks) (h .«interval_count») (start .pre .2))) in
+    put-over s6 room
     ∙ ap (λ w. over w old)
     (sym (saved-parts h a (record { tops = start .pre .0; ends = start .pre .1; blocks = start .pre .2 })))
 
