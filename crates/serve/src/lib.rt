@@ -8,15 +8,22 @@ use respond::one;
 use session::state::Stage;
 use session::state::State;
 ghost use mathlib.Core.Path.{_≡_};
-ghost use mathlib.Core.Bool.{false};
+ghost use mathlib.Core.Bool.{true, false};
 ghost use Prim.Native.Nat.{_+_, _≤_, _<_};
-ghost use lib.ListN.{length};
+ghost use lib.ListN.{length, take};
 ghost use Rattle.model.specs.Table.{arrays};
 ghost use Rattle.model.specs.Refusal.{roomShort};
 ghost use Rattle.session.specs.Maps.{Right};
 ghost use Rattle.session.specs.declared.state.Stage.the-variants.{Empty};
 ghost use Rattle.io.specs.Counts.{Counts};
 ghost use Rattle.console.specs.Rack.{rack, held};
+ghost use Rattle.serve.specs.Loop.{part, Obeys, Ends};
+ghost use Rattle.serve.specs.Claims.{LoopClaims};
+
+// What is proved of a loop that obeys lines: specs/Claims.antt.
+pub fn claims()
+    ensures { λ _. ⌜ LoopClaims ⌝ }
+{}
 
 // In a block: the state, the bytes kept of the unfinished line, the place reached in the block and in `out`, and whether the
 // output is still open.
@@ -65,6 +72,19 @@ fn pieced(
         ⌝ }
     ensures reached { λ r.
         ⌜ (from < r .from) × (r .from ≤ length (now (block .entry))) × (r .kept ≤ 65) × (r .at + 64 ≤ 491584) ⌝ }
+    ensures obeyed { λ r.
+        ⌜
+        Obeys (now (line .entry)) kept (part from (r .from) (now (block .entry)))
+        (held
+        (rack state
+        (arrays (now (tops .entry)) (now (ends .entry)) (now (blocks .entry)) (now (adjustments .entry)))
+        (arrays (now («second_tops» .entry)) (now («second_ends» .entry)) (now («second_blocks» .entry)) (now («second_adjustments» .entry)))))
+        (now (line .exit)) (r .kept)
+        (held
+        (rack (r .state)
+        (arrays (now (tops .exit)) (now (ends .exit)) (now (blocks .exit)) (now (adjustments .exit)))
+        (arrays (now («second_tops» .exit)) (now («second_ends» .exit)) (now («second_blocks» .exit)) (now («second_adjustments» .exit)))))
+        ⌝ }
 {
     let cut = gather(block, from, line, kept);
     if cut.at == block.len() {
@@ -139,6 +159,19 @@ fn whole(
         ⌝ }
     ensures reached { λ r.
         ⌜ (from < r .from) × (r .from ≤ length (now (block .entry))) × (r .kept ≤ 65) × (r .at + 64 ≤ 491584) ⌝ }
+    ensures obeyed { λ r.
+        ⌜
+        Obeys (now (line .entry)) 0 (part from (r .from) (now (block .entry)))
+        (held
+        (rack state
+        (arrays (now (tops .entry)) (now (ends .entry)) (now (blocks .entry)) (now (adjustments .entry)))
+        (arrays (now («second_tops» .entry)) (now («second_ends» .entry)) (now («second_blocks» .entry)) (now («second_adjustments» .entry)))))
+        (now (line .exit)) (r .kept)
+        (held
+        (rack (r .state)
+        (arrays (now (tops .exit)) (now (ends .exit)) (now (blocks .exit)) (now (adjustments .exit)))
+        (arrays (now («second_tops» .exit)) (now («second_ends» .exit)) (now («second_blocks» .exit)) (now («second_adjustments» .exit)))))
+        ⌝ }
 {
     let end = feed_at(block, from);
     if end == block.len() {
@@ -215,6 +248,19 @@ fn next(
         ⌝ }
     ensures reached { λ r.
         ⌜ (from < r .from) × (r .from ≤ length (now (block .entry))) × (r .kept ≤ 65) × (r .at + 64 ≤ 491584) ⌝ }
+    ensures obeyed { λ r.
+        ⌜
+        Obeys (now (line .entry)) kept (part from (r .from) (now (block .entry)))
+        (held
+        (rack state
+        (arrays (now (tops .entry)) (now (ends .entry)) (now (blocks .entry)) (now (adjustments .entry)))
+        (arrays (now («second_tops» .entry)) (now («second_ends» .entry)) (now («second_blocks» .entry)) (now («second_adjustments» .entry)))))
+        (now (line .exit)) (r .kept)
+        (held
+        (rack (r .state)
+        (arrays (now (tops .exit)) (now (ends .exit)) (now (blocks .exit)) (now (adjustments .exit)))
+        (arrays (now («second_tops» .exit)) (now («second_ends» .exit)) (now («second_blocks» .exit)) (now («second_adjustments» .exit)))))
+        ⌝ }
 {
     if kept == 0 {
         return whole(
@@ -255,7 +301,7 @@ fn next(
     )
 }
 
-// The lines of a block, all answered.
+// The lines of a block, all answered; or those up to the one at which the output closed.
 fn feed(
     block: &[u8],
     line: &mut [u8; 65],
@@ -289,6 +335,20 @@ fn feed(
         (arrays (now («second_tops» .exit)) (now («second_ends» .exit)) (now («second_blocks» .exit)) (now («second_adjustments» .exit)))))
         ⌝ }
     ensures kept { λ r. ⌜ r .kept ≤ 65 ⌝ }
+    ensures all { λ r. ⌜ (r .open ≡ true → r .from ≡ length (now (block .entry))) ⌝ }
+    ensures obeyed { λ r.
+        ⌜
+        Obeys (now (line .entry)) kept (take (r .from) (now (block .entry)))
+        (held
+        (rack state
+        (arrays (now (tops .entry)) (now (ends .entry)) (now (blocks .entry)) (now (adjustments .entry)))
+        (arrays (now («second_tops» .entry)) (now («second_ends» .entry)) (now («second_blocks» .entry)) (now («second_adjustments» .entry)))))
+        (now (line .exit)) (r .kept)
+        (held
+        (rack (r .state)
+        (arrays (now (tops .exit)) (now (ends .exit)) (now (blocks .exit)) (now (adjustments .exit)))
+        (arrays (now («second_tops» .exit)) (now («second_ends» .exit)) (now («second_blocks» .exit)) (now («second_adjustments» .exit)))))
+        ⌝ }
 {
     let mut fed = Fed {
         state,
@@ -358,6 +418,19 @@ fn finish(
         (arrays (now («second_tops» .exit)) (now («second_ends» .exit)) (now («second_blocks» .exit)) (now («second_adjustments» .exit)))))
         ⌝ }
     ensures kept { λ r. ⌜ r .kept ≤ 65 ⌝ }
+    ensures closed { λ r. ⌜ r .open ≡ false ⌝ }
+    ensures ended { λ r.
+        ⌜
+        Ends (now (line .entry)) kept
+        (held
+        (rack state
+        (arrays (now (tops .entry)) (now (ends .entry)) (now (blocks .entry)) (now (adjustments .entry)))
+        (arrays (now («second_tops» .entry)) (now («second_ends» .entry)) (now («second_blocks» .entry)) (now («second_adjustments» .entry)))))
+        (held
+        (rack (r .state)
+        (arrays (now (tops .exit)) (now (ends .exit)) (now (blocks .exit)) (now (adjustments .exit)))
+        (arrays (now («second_tops» .exit)) (now («second_ends» .exit)) (now («second_blocks» .exit)) (now («second_adjustments» .exit)))))
+        ⌝ }
 {
     if kept == 0 {
         return Fed {
@@ -440,6 +513,32 @@ fn answer(
         (arrays (now («second_tops» .exit)) (now («second_ends» .exit)) (now («second_blocks» .exit)) (now («second_adjustments» .exit)))))
         ⌝ }
     ensures kept { λ r. ⌜ r .kept ≤ 65 ⌝ }
+    ensures all { λ r. ⌜ (r .open ≡ true → r .from ≡ n) ⌝ }
+    ensures obeyed { λ r.
+        ⌜
+        (0 < n → Obeys (now (line .entry)) kept (take (r .from) (take n (now (block .entry))))
+        (held
+        (rack state
+        (arrays (now (tops .entry)) (now (ends .entry)) (now (blocks .entry)) (now (adjustments .entry)))
+        (arrays (now («second_tops» .entry)) (now («second_ends» .entry)) (now («second_blocks» .entry)) (now («second_adjustments» .entry)))))
+        (now (line .exit)) (r .kept)
+        (held
+        (rack (r .state)
+        (arrays (now (tops .exit)) (now (ends .exit)) (now (blocks .exit)) (now (adjustments .exit)))
+        (arrays (now («second_tops» .exit)) (now («second_ends» .exit)) (now («second_blocks» .exit)) (now («second_adjustments» .exit))))))
+        ⌝ }
+    ensures ended { λ r.
+        ⌜
+        (n ≡ 0 → Ends (now (line .entry)) kept
+        (held
+        (rack state
+        (arrays (now (tops .entry)) (now (ends .entry)) (now (blocks .entry)) (now (adjustments .entry)))
+        (arrays (now («second_tops» .entry)) (now («second_ends» .entry)) (now («second_blocks» .entry)) (now («second_adjustments» .entry)))))
+        (held
+        (rack (r .state)
+        (arrays (now (tops .exit)) (now (ends .exit)) (now (blocks .exit)) (now (adjustments .exit)))
+        (arrays (now («second_tops» .exit)) (now («second_ends» .exit)) (now («second_blocks» .exit)) (now («second_adjustments» .exit))))))
+        ⌝ }
 {
     if n == 0 {
         return finish(

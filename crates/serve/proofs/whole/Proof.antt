@@ -2,28 +2,28 @@
 use Prim.Native.Nat.{_-_}
 use native.Mathlib.Omega.{arith}
 use lib.ListN.{length, drop, length-take, length-drop}
-use Rattle.lines.specs.Cut.{upToFeed}
-use Rattle.serve.proofs.Kept.{cut-within, kept-few}
-use borrow.Author.Needs.{needs}
+use Rattle.serve.proofs.Going.{cut-within, obeys-part, obeys-in-place}
 use Rattle.serve.proofs.whole.Statement.{statement}
 use Rattle.serve.proofs.whole.Tie as tie
 
 feed-at-requires : tie.Need-feed-at-requires
-feed-at-requires c κs = search needs
+feed-at-requires c κs = omega (arith, c .before .pre .1 .0)
 
 gather-requires : tie.Need-gather-requires
-gather-requires c κs = search needs
+gather-requires c κs = (omega (arith, c .before .before .before .before .pre .1 .0), omega arith)
 
 returns : tie.Need-returns
 returns c =
     let pre = c .before .before .before .before .before .pre in
-    let end = c .before .before .before .feed-at .ensures in (
+    let end = c .before .before .before .feed-at .ensures in
+    let cut = c .gather .ensures in
+    let last = c .before .before .if1 .taken in
+    let within = cut-within _ _ _ (omega (arith, pre .1 .0)) end in
+    let few = simp length-take at (cut .1) in (
       pre .0,
       (
-        omega (arith, pre .1 .0, c .before .before .if1 .taken),
-        cut-within _ _ _ (omega (arith, pre .1 .0)) end,
-        kept-few 0 _ (upToFeed (drop (c .before .before .before .before .before .args .from) (c .before .before .before .before .before .args .block .now))) (omega arith) (c .gather .ensures .1),
-        pre .1 .1,
+        (omega (arith, pre .1 .0, last), within, omega (arith, few), pre .1 .1),
+        obeys-part _ _ _ _ _ _ _ _ end (cut .1) (cut .2) last,
       ),
     )
 
@@ -32,16 +32,16 @@ add-behind c =
     omega (arith, cut-within _ _ _ (omega (arith, c .before .before .before .pre .1 .0)) (c .before .feed-at .ensures))
 
 sub-one : tie.Need-sub-one
-sub-one c = search needs
+sub-one c = omega (arith, c .before .feed-at .ensures)
 
 part-one-start : tie.Need-part-one-start
-part-one-start c = search needs
+part-one-start c = omega (arith, c .before .before .before .pre .1 .0)
 
 part-one-end : tie.Need-part-one-end
-part-one-end c = search needs
+part-one-end c = omega arith
 
 sub-one-2 : tie.Need-sub-one-2
-sub-one-2 c = search needs
+sub-one-2 c = omega (arith, c .before .before .feed-at .ensures)
 
 one-requires : tie.Need-one-requires
 one-requires c κs =
@@ -57,7 +57,13 @@ returns-2 c =
     let end = c .before .before .before .before .before .before .before .before .before .before .before .before .before .before .feed-at .ensures in
     let within = cut-within _ _ _ (omega (arith, pre .1 .0)) end in
     let done = c .before .one .ensures in
-    (done .0, (omega (arith, end), omega (arith, within, c .before .before .before .before .before .before .before .before .before .before .before .before .before .if1 .left), omega arith, done .1 .0))
+    let ends = c .before .before .before .before .before .before .before .before .before .before .before .before .before .if1 .left in (
+      done .0,
+      (
+        (omega (arith, end), omega (arith, within, ends), omega arith, done .1 .0),
+        obeys-in-place _ _ _ _ _ _ end (omega (arith, within, ends)) (done .1 .1),
+      ),
+    )
 
 pub whole-spec : {M : Type 1} → statement M
 whole-spec =
