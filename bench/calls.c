@@ -1,0 +1,787 @@
+/* Compares the proved calls (irr_...) with those by hand in irr.c (plain_...): first that
+ * both answer the same, then how fast they are.
+ *
+ *   calls [runs]
+ *
+ * Each measurement is the best of 21 runs unless another number is given; the runs of both
+ * take turns. Ends with 1 if an answer differs, with 2 if it can't compare.
+ */
+#include "plain.h"
+
+#include <stdbool.h>
+#include <stdio.h>
+#include <stdlib.h>
+#include <string.h>
+#include <time.h>
+
+enum {
+	MAX_BLOCKS = 65,
+	MAX_INTERVALS = 2081,
+	MAX_SAVED = 12 + 4 * MAX_BLOCKS + 8 * MAX_INTERVALS,
+	PAGE = 8192,       /* rows of the longer page of the move list */
+	SHORT_PAGE = 64,
+	ARGUMENTS = 1024,  /* a power of 2: the calls of a measurement go round them */
+	PAST = 4,          /* entries behind a lent array, which no call may write */
+	MAX_WORKS = 64
+};
+
+/* ---------------------------------------------------------------- the calls */
+
+enum call {INITIAL, EXPAND, RELOCATIONS, PLACE, FIND, BIN_SIZE, ROOM, SAVE, LOAD, CALL_COUNT};
+
+static const char *const names[CALL_COUNT] = {
+	"initial", "expand", "relocations", "place", "find", "bin_size", "room", "save", "load",
+};
+
+struct calls {
+	__typeof__(irr_initial) *initial;
+	__typeof__(irr_expand) *expand;
+	__typeof__(irr_relocations) *relocations;
+	__typeof__(irr_place) *place;
+	__typeof__(irr_find) *find;
+	__typeof__(irr_bin_size) *bin_size;
+	__typeof__(irr_room) *room;
+	__typeof__(irr_save) *save;
+	__typeof__(irr_load) *load;
+};
+
+static const struct calls proved = {
+	irr_initial, irr_expand, irr_relocations, irr_place, irr_find,
+	irr_bin_size, irr_room, irr_save, irr_load,
+};
+
+static const struct calls plain = {
+	plain_initial, plain_expand, plain_relocations, plain_place, plain_find,
+	plain_bin_size, plain_room, plain_save, plain_load,
+};
+
+struct map {
+	struct irr_header header;
+	uint32_t tops[MAX_BLOCKS], ends[MAX_INTERVALS], blocks[MAX_INTERVALS];
+	uint32_t adjustments[MAX_INTERVALS];
+};
+
+/* The arrays of a map, as arguments. */
+#define ARRAYS(m) (m)->tops, MAX_BLOCKS, (m)->ends, MAX_INTERVALS, \
+		  (m)->blocks, MAX_INTERVALS, (m)->adjustments, MAX_INTERVALS
+
+static void fail(const char *what, int status)
+{
+	fflush(stdout);
+	fprintf(stderr, "calls: %s\n", what);
+	exit(status);
+}
+
+/* ---------------------------------------------------------------- histories */
+
+static struct map fresh(uint32_t buckets, uint32_t bins)
+{
+	struct map m = {0};
+	struct irr_table_reply reply = plain.initial(buckets, bins, ARRAYS(&m));
+
+	if (reply.refusal != 0)
+		fail("a fresh map is refused", 2);
+	m.header = reply.header;
+	return m;
+}
+
+static struct map grown(const struct map *old, uint32_t buckets, uint32_t bins)
+{
+	struct map m = {0};
+	struct irr_table_reply reply = plain.expand(old->header, ARRAYS(old), buckets, bins,
+						    ARRAYS(&m));
+
+	if (reply.refusal != 0)
+		fail("a growth of a history is refused", 2);
+	m.header = reply.header;
+	return m;
+}
+
+static uint32_t bins_of(const struct map *m)
+{
+	return m->tops[m->header.block_count - 1];
+}
+
+/* A fresh map of 100 bins, and one bin more at a time until there are so many blocks. Each
+ * growth cuts nearly every old block's last interval. */
+static struct map history(uint32_t blocks)
+{
+	struct map m = fresh(324999988, 100);
+
+	while (m.header.block_count < blocks)
+		m = grown(&m, m.header.buckets, bins_of(&m) + 1);
+	return m;
+}
+
+/* The largest table: the history to 65 blocks, and one bucket more. */
+static struct map largest(void)
+{
+	struct map m = history(MAX_BLOCKS);
+
+	m = grown(&m, m.header.buckets + 1, bins_of(&m));
+	if (m.header.block_count != MAX_BLOCKS || m.header.interval_count != MAX_INTERVALS)
+		fail("the largest table is not 65 blocks and 2,081 intervals", 2);
+	return m;
+}
+
+/* ------------------------------------------------------------ random numbers */
+
+static uint64_t random_state = 1;
+
+static uint32_t random_number(void)
+{
+	random_state = random_state * 6364136223846793005u + 1442695040888963407u;
+	return (uint32_t)(random_state >> 32);
+}
+
+/* From 0 to bound - 1. */
+static uint32_t below(uint32_t bound)
+{
+	return (uint32_t)(((uint64_t)random_number() * bound) >> 32);
+}
+
+/* --------------------------------------------------------------- comparison */
+
+/* A call with its arguments; which of them count depends on the call. */
+struct question {
+	enum call call;
+	const struct map *map;   /* the lent table */
+	size_t lengths[4];       /* of its arrays */
+	uint32_t x, y, z;        /* the numbers, in their order */
+	size_t new_lengths[4];   /* of the arrays of a new table */
+	size_t rows_length, buffer_length;
+	const uint8_t *bytes;    /* the file */
+	size_t bytes_length;
+};
+
+struct answer {
+	uint32_t reply[5];
+	uint32_t tops[MAX_BLOCKS + PAST], ends[MAX_INTERVALS + PAST];
+	uint32_t blocks[MAX_INTERVALS + PAST], adjustments[MAX_INTERVALS + PAST];
+	uint32_t rows[5 * PAGE + PAST];
+	uint8_t buffer[MAX_SAVED + PAST];
+};
+
+#define REPLY(a, call) do {                                       \
+	__typeof__(call) reply = (call);                          \
+	memcpy((a)->reply, &reply, sizeof reply);                 \
+} while (0)
+
+#define LENT(q) (q)->map->header, (q)->map->tops, (q)->lengths[0], \
+		(q)->map->ends, (q)->lengths[1], (q)->map->blocks, (q)->lengths[2], \
+		(q)->map->adjustments, (q)->lengths[3]
+#define NEW(q, a) (a)->tops, (q)->new_lengths[0], (a)->ends, (q)->new_lengths[1], \
+		  (a)->blocks, (q)->new_lengths[2], (a)->adjustments, (q)->new_lengths[3]
+
+static void ask(const struct calls *c, const struct question *q, struct answer *a)
+{
+	memset(a, 0xa5, sizeof *a);
+	switch (q->call) {
+	case INITIAL:
+		REPLY(a, c->initial(q->x, q->y, NEW(q, a)));
+		break;
+	case EXPAND:
+		REPLY(a, c->expand(LENT(q), q->x, q->y, NEW(q, a)));
+		break;
+	case RELOCATIONS:
+		REPLY(a, c->relocations(LENT(q), q->x, q->y, q->z, a->rows, q->rows_length));
+		break;
+	case PLACE:
+		REPLY(a, c->place(LENT(q), q->x));
+		break;
+	case FIND:
+		REPLY(a, c->find(LENT(q), q->x, q->y));
+		break;
+	case BIN_SIZE:
+		REPLY(a, c->bin_size(LENT(q), q->x));
+		break;
+	case ROOM:
+		REPLY(a, c->room(q->x));
+		break;
+	case SAVE:
+		REPLY(a, c->save(LENT(q), a->buffer, q->buffer_length));
+		break;
+	default:
+		REPLY(a, c->load(q->bytes, q->bytes_length, NEW(q, a)));
+	}
+}
+
+static unsigned long questions, accepted;
+static bool seen[22]; /* refusals */
+
+/* Asks both. Ends the program if their replies or any array that they were lent differ, or
+ * if an array that is only to be read has changed. */
+static void compare(const struct question *q)
+{
+	static struct answer of_proved, of_plain;
+	static struct map table;
+	static uint8_t file[MAX_SAVED];
+	uint32_t refusal;
+
+	table = *q->map;
+	memcpy(file, q->bytes, q->bytes_length);
+	ask(&proved, q, &of_proved);
+	ask(&plain, q, &of_plain);
+	refusal = of_plain.reply[0];
+	if (memcmp(&of_proved, &of_plain, sizeof of_plain) != 0 ||
+	    memcmp(&table, q->map, sizeof table) != 0 ||
+	    memcmp(file, q->bytes, q->bytes_length) != 0) {
+		fprintf(stderr, "calls: %s of %u, %u, %u differs: refusals %u and %u\n",
+			names[q->call], q->x, q->y, q->z, of_proved.reply[0], refusal);
+		exit(1);
+	}
+	questions++;
+	accepted += refusal == 0;
+	if (refusal < sizeof seen)
+		seen[refusal] = true;
+}
+
+/* The question with full arrays. */
+static struct question full_question(enum call call, const struct map *m)
+{
+	return (struct question){
+		.call = call,
+		.map = m,
+		.lengths = {MAX_BLOCKS, MAX_INTERVALS, MAX_INTERVALS, MAX_INTERVALS},
+		.new_lengths = {MAX_BLOCKS, MAX_INTERVALS, MAX_INTERVALS, MAX_INTERVALS},
+		.rows_length = 5 * SHORT_PAGE,
+		.buffer_length = MAX_SAVED,
+		.bytes = (const uint8_t *)"",
+	};
+}
+
+/* A map of few buckets after some growths. */
+static struct map small_map(void)
+{
+	uint32_t buckets = 1 + below(200);
+	struct map m = fresh(buckets, 1 + below(buckets < 9 ? buckets : 9));
+
+	for (uint32_t growths = below(9); growths > 0; growths--) {
+		uint32_t more = below(2) * below(20);
+		uint32_t bins = bins_of(&m) + below(4);
+
+		if (bins <= m.header.buckets + more && more + bins > bins_of(&m))
+			m = grown(&m, m.header.buckets + more, bins);
+	}
+	return m;
+}
+
+/* A number near x, or any. */
+static uint32_t near(uint32_t x)
+{
+	return below(8) == 0 ? random_number() : x + below(5) - 2;
+}
+
+/* Breaks one entry of a table, mostly by little. */
+static void damage(struct map *m)
+{
+	uint32_t block = below(m->header.block_count < MAX_BLOCKS ? m->header.block_count : 1);
+	uint32_t count = m->header.interval_count;
+	uint32_t i = below(count < MAX_INTERVALS ? count : MAX_INTERVALS);
+	uint32_t *entries[] = {
+		&m->header.buckets, &m->header.block_count, &m->header.interval_count,
+		&m->tops[block], &m->ends[i], &m->blocks[i], &m->adjustments[i],
+	};
+	uint32_t *entry = entries[below(7)];
+
+	*entry = near(*entry);
+}
+
+/* Random numbers for a question about m: mostly such that it is accepted. */
+static void ask_numbers(struct question *q, const struct map *m)
+{
+	uint32_t buckets = m->header.buckets, bins = bins_of(m);
+
+	switch (q->call) {
+	case INITIAL:
+		q->x = below(2) ? near(buckets) : near(bins);
+		q->y = below(8) ? near(bins) : near(65535);
+		break;
+	case EXPAND:
+	case RELOCATIONS:
+		q->x = below(4) ? buckets + below(3) * below(70) : near(buckets);
+		q->y = below(4) ? bins + below(3) : near(bins);
+		q->z = below(4) ? below(3) : near(buckets / (bins + 1));
+		break;
+	case ROOM:
+		q->x = near(below(66));
+		break;
+	case PLACE:
+		q->x = below(4) ? below(buckets) : near(buckets);
+		break;
+	default:
+		q->x = below(4) ? below(bins) : near(bins);
+		q->y = below(4) ? below(buckets / bins + 1) : near(buckets / bins);
+	}
+}
+
+/* Lends arrays and buffers that are often too short. */
+static void ask_lengths(struct question *q, const struct map *m)
+{
+	size_t needed = 12 + 4 * m->header.block_count + 8 * m->header.interval_count;
+
+	q->lengths[0] = m->header.block_count;
+	for (int i = 1; i < 4; i++)
+		q->lengths[i] = m->header.interval_count;
+	q->lengths[below(4)] -= below(4) == 0;
+	q->new_lengths[below(4)] -= below(4) == 0;
+	q->rows_length = below(5 * SHORT_PAGE);
+	q->buffer_length = needed - (below(4) == 0);
+}
+
+/* One random question of each kind about a map, whole or damaged. */
+static void compare_about(const struct map *whole)
+{
+	static struct map m;
+	static uint8_t file[MAX_SAVED];
+	struct irr_save_reply saved = plain.save(whole->header, ARRAYS(whole), file, MAX_SAVED);
+
+	for (int call = 0; call < CALL_COUNT; call++) {
+		struct question q = full_question(call, &m);
+
+		m = *whole;
+		ask_numbers(&q, whole);
+		q.bytes = file;
+		q.bytes_length = saved.length;
+		if (below(2))
+			ask_lengths(&q, whole);
+		for (uint32_t times = below(3); times > 0; times--)
+			damage(&m);
+		if (call == LOAD && below(2)) {
+			file[4 * below(saved.length / 4)] += (uint8_t)(below(5) - 2);
+			q.bytes_length -= below(4) == 0 ? below(saved.length) : 0;
+		}
+		compare(&q);
+	}
+}
+
+/* Growths of a map by buckets alone: of the largest, they pass the limit of rule 8. */
+static void compare_growths(const struct map *m)
+{
+	struct question q = full_question(EXPAND, m);
+
+	q.y = bins_of(m);
+	for (uint32_t more = 0; more < 200; more++) {
+		q.x = m->header.buckets + more;
+		compare(&q);
+	}
+}
+
+static void compare_random(const struct map *large, size_t count)
+{
+	static const int numbers[] = {1, 2, 3, 4, 5, 6, 7, 8, 9, 11, 12, 13, 14, 15, 16, 21};
+	struct map m;
+
+	for (int i = 0; i < 3000; i++) {
+		m = i % 4 == 0 ? large[below((uint32_t)count)] : small_map();
+		compare_about(&m);
+	}
+	for (size_t i = 0; i < sizeof numbers / sizeof *numbers; i++)
+		if (!seen[numbers[i]])
+			fail("a refusal did not come up", 2);
+}
+
+/* -------------------------------------------------------------- measurement */
+
+/* A call to measure: its table, and the numbers that it goes round. */
+struct work {
+	enum call call;
+	const struct map *map;
+	char what[120];         /* the table and the arguments, in words */
+	size_t rows_length;
+	uint32_t rows;          /* that a call of relocations writes */
+	size_t bytes_length;
+	uint8_t bytes[MAX_SAVED];
+	uint32_t x[ARGUMENTS], y[ARGUMENTS], z;
+	size_t times;           /* calls in a run */
+	double best[2];         /* seconds of the best run, proved and plain */
+};
+
+/* What the measured calls write. */
+static struct map out;
+static uint32_t rows[5 * PAGE];
+static uint8_t buffer[MAX_SAVED];
+
+#define LOOP(name) static uint32_t name(const struct calls *c, const struct work *w, size_t times)
+#define EACH_CALL for (size_t n = 0; n < times; n++)
+#define TURN (n % ARGUMENTS)
+
+/* Each loop makes so many calls and returns a sum of their replies. */
+
+LOOP(initial_loop)
+{
+	uint32_t sum = 0;
+
+	EACH_CALL
+		sum += c->initial(w->x[TURN], w->y[TURN], ARRAYS(&out)).header.buckets;
+	return sum;
+}
+
+LOOP(expand_loop)
+{
+	uint32_t sum = 0;
+
+	EACH_CALL
+		sum += c->expand(w->map->header, ARRAYS(w->map), w->x[TURN], w->y[TURN],
+				 ARRAYS(&out)).header.interval_count;
+	return sum;
+}
+
+LOOP(relocations_loop)
+{
+	uint32_t sum = 0;
+
+	EACH_CALL
+		sum += c->relocations(w->map->header, ARRAYS(w->map), w->x[TURN], w->y[TURN],
+				      w->z, rows, w->rows_length).written;
+	return sum;
+}
+
+LOOP(place_loop)
+{
+	uint32_t sum = 0;
+
+	EACH_CALL
+		sum += c->place(w->map->header, ARRAYS(w->map), w->x[TURN]).position;
+	return sum;
+}
+
+LOOP(find_loop)
+{
+	uint32_t sum = 0;
+
+	EACH_CALL
+		sum += c->find(w->map->header, ARRAYS(w->map), w->x[TURN], w->y[TURN]).bucket;
+	return sum;
+}
+
+LOOP(bin_size_loop)
+{
+	uint32_t sum = 0;
+
+	EACH_CALL
+		sum += c->bin_size(w->map->header, ARRAYS(w->map), w->x[TURN]).buckets;
+	return sum;
+}
+
+LOOP(room_loop)
+{
+	uint32_t sum = 0;
+
+	EACH_CALL
+		sum += c->room(w->x[TURN]).intervals;
+	return sum;
+}
+
+LOOP(save_loop)
+{
+	uint32_t sum = 0;
+
+	EACH_CALL
+		sum += c->save(w->map->header, ARRAYS(w->map), buffer, MAX_SAVED).length;
+	return sum;
+}
+
+LOOP(load_loop)
+{
+	uint32_t sum = 0;
+
+	EACH_CALL
+		sum += c->load(w->bytes, w->bytes_length, ARRAYS(&out)).header.interval_count;
+	return sum;
+}
+
+static uint32_t (*const loops[CALL_COUNT])(const struct calls *, const struct work *, size_t) = {
+	initial_loop, expand_loop, relocations_loop, place_loop, find_loop,
+	bin_size_loop, room_loop, save_loop, load_loop,
+};
+
+/* Seconds of processor time that so many calls take. Each turn has its frames elsewhere on
+ * the stack: where they lie decides some nanoseconds of a short call. */
+static double seconds(const struct calls *c, const struct work *w, size_t times, int turn)
+{
+	static volatile uint32_t sink;
+	volatile char gap[16 + 16 * (turn / 2 % 16)];
+	struct timespec from, to;
+
+	gap[0] = 0;
+	clock_gettime(CLOCK_PROCESS_CPUTIME_ID, &from);
+	sink = loops[w->call](c, w, times);
+	clock_gettime(CLOCK_PROCESS_CPUTIME_ID, &to);
+	(void)sink;
+	(void)gap[0];
+	return (double)(to.tv_sec - from.tv_sec) + 1e-9 * (double)(to.tv_nsec - from.tv_nsec);
+}
+
+/* So many calls that the plain ones take about 20 ms. */
+static size_t calls_for(const struct work *w)
+{
+	size_t times = ARGUMENTS / 4;
+	double taken;
+
+	while ((taken = seconds(&plain, w, times, 0)) < 0.005)
+		times *= 2;
+	return (size_t)(0.020 * (double)times / taken) + 1;
+}
+
+/* A number with a comma before every three digits. */
+static const char *grouped(double value)
+{
+	static char texts[4][32];
+	static int turn;
+	char digits[32];
+	char *to = texts[turn = (turn + 1) % 4], *text = to;
+	int length = snprintf(digits, sizeof digits, "%.0f", value);
+
+	for (int i = 0; i < length; i++) {
+		if (i > 0 && (length - i) % 3 == 0)
+			*to++ = ',';
+		*to++ = digits[i];
+	}
+	*to = '\0';
+	return text;
+}
+
+/* Measures all works, the calls of both in turn. A run goes through all works before the
+ * next, so that other load on the machine spoils few runs of a work. */
+static void measure(struct work *works, size_t count, int runs)
+{
+	const struct calls *both[2] = {&proved, &plain};
+
+	for (size_t i = 0; i < count; i++) {
+		works[i].times = calls_for(&works[i]);
+		works[i].best[0] = works[i].best[1] = 1e9;
+	}
+	for (int turn = 0; turn < 2 * runs; turn++) {
+		for (size_t i = 0; i < count; i++) {
+			struct work *w = &works[i];
+			int which = (turn + (int)i) % 2;
+			double taken = seconds(both[which], w, w->times, turn);
+
+			if (taken < w->best[which])
+				w->best[which] = taken;
+		}
+	}
+}
+
+/* Asks both every question that is measured; each has to be accepted. */
+static void compare_work(const struct work *w)
+{
+	struct question q = full_question(w->call, w->map);
+	unsigned long before = accepted;
+
+	q.z = w->z;
+	q.rows_length = w->rows_length;
+	q.bytes = w->bytes;
+	q.bytes_length = w->bytes_length;
+	for (int i = 0; i < ARGUMENTS; i++) {
+		q.x = w->x[i];
+		q.y = w->y[i];
+		compare(&q);
+	}
+	if (accepted - before != ARGUMENTS)
+		fail("a call that is to be measured is refused", 2);
+}
+
+/* --------------------------------------------------------- what is measured */
+
+static struct work works[MAX_WORKS];
+static size_t work_count;
+
+/* A new work: numbers that suit most calls, random but the same every time. */
+static struct work *add(enum call call, const struct map *m, const char *what)
+{
+	struct work *w = &works[work_count++];
+
+	if (work_count > MAX_WORKS)
+		fail("too many measurements", 2);
+	w->call = call;
+	w->map = m;
+	snprintf(w->what, sizeof w->what, "%s", what);
+	w->bytes_length = plain.save(m->header, ARRAYS(m), w->bytes, MAX_SAVED).length;
+	for (int i = 0; i < ARGUMENTS; i++) {
+		uint32_t bins = bins_of(m);
+
+		w->x[i] = call == PLACE ? below(m->header.buckets) : below(bins);
+		w->y[i] = below(m->header.buckets / bins);
+		if (call == ROOM)
+			w->x[i] = below(65);
+		if (call == INITIAL) {
+			w->x[i] = 65535 + below(900000000);
+			w->y[i] = 1 + below(65535);
+		}
+	}
+	return w;
+}
+
+/* A growth to the sizes given. */
+static struct work *add_growth(enum call call, const struct map *m, uint32_t buckets,
+			       uint32_t bins, const char *what)
+{
+	struct work *w = add(call, m, what);
+
+	for (int i = 0; i < ARGUMENTS; i++) {
+		w->x[i] = buckets;
+		w->y[i] = bins;
+	}
+	return w;
+}
+
+/* A page of the move list of a growth without new buckets, from its first row or from the
+ * middle of its list. */
+static void add_page(const struct map *m, uint32_t bins, bool middle, uint32_t page,
+		     const char *where)
+{
+	struct irr_relocations_reply reply =
+		plain.relocations(m->header, ARRAYS(m), m->header.buckets, bins, 0, rows, 0);
+	struct work *w = add_growth(RELOCATIONS, m, m->header.buckets, bins, "");
+
+	w->z = middle ? reply.total / 2 : 0;
+	w->rows = page;
+	w->rows_length = 5 * page;
+	snprintf(w->what, sizeof w->what, "%s: %s of %s rows, a page of %s", where,
+		 middle ? "the middle" : "the start", grouped(reply.total), grouped(page));
+}
+
+static void add_pages(const struct map *m, uint32_t bins, const char *where)
+{
+	add_page(m, bins, false, PAGE, where);
+	add_page(m, bins, true, PAGE, where);
+	add_page(m, bins, false, SHORT_PAGE, where);
+	add_page(m, bins, true, SHORT_PAGE, where);
+}
+
+/* The maps of the measurements, by their blocks or what becomes of them; the widest, which
+ * has as many bins as a map may have, is only asked about. */
+enum {ONE, TWELVE, THIRTY_TWO, SIXTY_FOUR, LARGEST, HALVED_ONE, HALVED_TEN, WIDEST, MAP_COUNT};
+static struct map maps[MAP_COUNT];
+
+static void make_maps(void)
+{
+	maps[ONE] = history(1);
+	maps[TWELVE] = history(12);
+	maps[THIRTY_TWO] = history(32);
+	maps[SIXTY_FOUR] = history(64);
+	maps[LARGEST] = largest();
+	maps[HALVED_ONE] = fresh(1000000000, 1);
+	maps[HALVED_TEN] = fresh(1000000000, 10);
+	maps[WIDEST] = fresh(999999999, 65535);
+}
+
+/* The calls on the largest table and on a fresh one. */
+static void add_calls(void)
+{
+	const struct map *one = &maps[ONE], *all = &maps[LARGEST], *most = &maps[SIXTY_FOUR];
+	enum call plain_ones[] = {PLACE, FIND, BIN_SIZE, SAVE, LOAD};
+
+	for (size_t i = 0; i < sizeof plain_ones / sizeof *plain_ones; i++) {
+		add(plain_ones[i], all, "largest");
+		add(plain_ones[i], one, "fresh");
+	}
+	add_growth(EXPAND, all, all->header.buckets + 1, bins_of(all),
+		   "largest: one bucket more, which lengthens the last interval");
+	add_growth(EXPAND, most, most->header.buckets, bins_of(most) + 1,
+		   "64 blocks: one bin more, which splits intervals of all blocks");
+	add_growth(EXPAND, one, one->header.buckets + 1, bins_of(one),
+		   "fresh: one bucket more");
+	add_growth(EXPAND, one, one->header.buckets, bins_of(one) + 1, "fresh: one bin more");
+	add_pages(most, bins_of(most) + 1, "64 blocks to 65");
+	add_pages(&maps[HALVED_ONE], 2, "1 bin to 2");
+	add_pages(&maps[HALVED_TEN], 20, "10 bins to 20");
+	add(INITIAL, one, "any sizes");
+	add(ROOM, one, "0 to 64 growths");
+}
+
+/* The same calls on tables of rising length. */
+static void add_lengths(void)
+{
+	static const int sizes[] = {ONE, TWELVE, THIRTY_TWO, SIXTY_FOUR, LARGEST};
+	char what[100];
+
+	for (int i = 0; i < 10; i++) {
+		const struct map *m = &maps[sizes[i % 5]];
+		uint32_t bins = bins_of(m) + (m->header.block_count < MAX_BLOCKS);
+
+		snprintf(what, sizeof what, "intervals %s, blocks %u%s",
+			 grouped(m->header.interval_count), m->header.block_count,
+			 i < 5 ? "" : bins > bins_of(m) ? ": one bin more" : ": one bucket more");
+		if (i < 5)
+			add(PLACE, m, what);
+		else
+			add_growth(EXPAND, m, m->header.buckets + (bins == bins_of(m)), bins,
+				   what);
+	}
+}
+
+/* --------------------------------------------------------------------- main */
+
+static double ratio(const struct work *w)
+{
+	return w->best[0] / w->best[1];
+}
+
+/* What the words for the tables mean. */
+static void print_histories(void)
+{
+	printf("\nTables: a fresh map of 324,999,988 buckets in 100 bins (fresh), then one bin\n"
+	       "more at a time to 12, 32 and 64 blocks, and to 65 with one bucket more at the\n"
+	       "end (largest: %s intervals). \"1 bin to 2\" and \"10 bins to 20\" are growths\n"
+	       "of a fresh map of 1,000,000,000 buckets.\n",
+	       grouped(maps[LARGEST].header.interval_count));
+}
+
+static void print_table(const char *title, const struct work *from, const struct work *to)
+{
+	printf("\n%s\n\n| call | table | proved | C | proved time / C time |\n", title);
+	printf("|---|---|---:|---:|---:|\n");
+	for (const struct work *w = from; w < to; w++) {
+		double units = (double)w->times * (w->call == RELOCATIONS ? w->rows : 1);
+
+		printf("| `%s` | %s | %s | %s | %.2f |\n", names[w->call], w->what,
+		       grouped(units / w->best[0]), grouped(units / w->best[1]), ratio(w));
+	}
+}
+
+static void print_slower(void)
+{
+	bool slower = false;
+
+	printf("\n");
+	for (const struct work *w = works; w < works + work_count; w++) {
+		if (ratio(w) > 1.1) {
+			printf("Above 1.1: %.2f, `%s`, %s\n", ratio(w), names[w->call], w->what);
+			slower = true;
+		}
+	}
+	if (!slower)
+		printf("None is above 1.1.\n");
+}
+
+int main(int argc, char **argv)
+{
+	int runs = argc > 1 ? atoi(argv[1]) : 21;
+	size_t calls_end;
+
+	if (runs < 1)
+		fail("the number of runs is not above 0", 2);
+	make_maps();
+	add_calls();
+	calls_end = work_count;
+	add_lengths();
+
+	compare_random(maps, MAP_COUNT);
+	compare_growths(&maps[LARGEST]);
+	for (size_t i = 0; i < work_count; i++)
+		compare_work(&works[i]);
+	printf("The same answers to %s questions, %s of them refused.\n",
+	       grouped((double)questions), grouped((double)(questions - accepted)));
+	fflush(stdout);
+
+	measure(works, work_count, runs);
+	print_histories();
+	print_table("Calls a second, rows a second for `relocations`:", works, works + calls_end);
+	print_table("The same by the number of intervals:", works + calls_end,
+		    works + work_count);
+	print_slower();
+	return 0;
+}

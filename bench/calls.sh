@@ -1,0 +1,43 @@
+#!/bin/sh
+# Compares the proved calls with those by hand in bench/irr.c: first that both answer the
+# same, then how fast they are. Prints Markdown tables; 1.00 is level, less is faster.
+#
+#   bench/calls.sh [archive [runs]]
+#
+# The archive is target/staticlib/libcapi.a of this repository unless another is named; each
+# measurement is the best of 21 runs unless another number is given.
+# Ends with 1 if an answer differs, with 2 if it can't compare. A slow call is no failure.
+set -eu
+
+fail() {
+	echo "bench/calls.sh: $1" >&2
+	exit 2
+}
+
+here=$(CDPATH='' cd -- "$(dirname -- "$0")" && pwd)
+archive=${1:-$here/../target/staticlib/libcapi.a}
+runs=${2:-21}
+[ -f "$archive" ] || fail "no archive $archive; build it, or name another"
+
+work=$(mktemp -d)
+trap 'rm -rf "$work"' EXIT
+trap 'exit 2' HUP INT TERM
+
+# The functions of both begin at a cache line: where the linker puts a loop would otherwise
+# decide a good part of its speed.
+build() {
+	gcc -O3 -std=c11 -Wall -Wextra -Werror -D_POSIX_C_SOURCE=200809L -ffunction-sections \
+		-c "$here/$1.c" -o "$work/$1.o" || fail "gcc failed"
+}
+build calls
+build irr
+for file in "$work/irr.o" "$archive"; do
+	objcopy --set-section-alignment '.text*=64' "$file" "$work/aligned-${file##*/}" ||
+		fail "objcopy failed"
+done
+gcc "$work/calls.o" "$work/aligned-irr.o" "$work/aligned-${archive##*/}" -o "$work/calls" ||
+	fail "gcc failed"
+status=0
+"$work/calls" "$runs" || status=$?
+[ $status -le 2 ] || fail "the comparison broke off with status $status"
+exit $status

@@ -1,0 +1,21 @@
+/* The nine calls by hand (irr.c), each declared like the proved call of its name. */
+#ifndef BENCH_PLAIN_H
+#define BENCH_PLAIN_H
+
+#include "../include/irr.h"
+
+#define PLAIN(call) __typeof__(irr_##call) plain_##call
+
+PLAIN(initial);
+PLAIN(expand);
+PLAIN(relocations);
+PLAIN(place);
+PLAIN(find);
+PLAIN(bin_size);
+PLAIN(room);
+PLAIN(save);
+PLAIN(load);
+
+#undef PLAIN
+
+#endif

@@ -1,0 +1,229 @@
+/*
+ * The placement map for C: Interval-Round-Robin (Choy, Fagin, Stockmeyer).
+ *
+ * Buckets 0 to B-1 lie in bins 0 to n-1, each at a position of its bin. A block is the bins that
+ * were added together; an interval is a span of bucket numbers, all in one block; the rank of a
+ * bucket is its number less the adjustment of its interval; an expansion adds buckets, bins or
+ * both. Document 01 calls them drawer (bin), group (block), run (interval) and growth (expansion).
+ *
+ * A table is a header and four arrays: tops (one a block: the bins up to and including it), and
+ * ends, blocks and adjustments (one an interval: the first bucket past it, its block's number, its
+ * adjustment). An array may be longer than its count in the header; the rest is never read.
+ *
+ * Of every call:
+ * - It takes any numbers and any arrays, and answers the full result or one refusal number.
+ * - An array is a pointer and a length in entries. With length 0 the pointer may be anything, also
+ *   NULL; otherwise it must be aligned as its type, and valid for that length. An array that a call
+ *   writes must not overlap any other array of the call.
+ * - A refusal writes nothing, and its reply has zeros beside the number. A call tests its refusals
+ *   in the order in which they stand beside it, each over the whole table before the next.
+ * - Entries past those that an accepted call writes keep their contents.
+ * - No call allocates, keeps state or blocks: calls on different memory may run at the same time.
+ */
+#ifndef IRR_H
+#define IRR_H
+
+#include <stddef.h>
+#include <stdint.h>
+
+#ifdef __cplusplus
+extern "C" {
+#endif
+
+#define IRR_MAX_BUCKETS 1000000000 /* B */
+#define IRR_MAX_BINS 65535         /* n, which is also at most B */
+#define IRR_MAX_BLOCKS 65          /* entries of tops to lend for a new table */
+#define IRR_MAX_INTERVALS 2081     /* entries of each interval array to lend for a new table */
+#define IRR_MAX_EXPANSIONS 64      /* the most that irr_room answers for */
+#define IRR_ROW 5                  /* numbers in a row of irr_relocations */
+#define IRR_MAX_SAVED 16920        /* bytes of the largest saved map: 12 + 4 * 65 + 8 * 2081 */
+
+/* The refusal numbers, as document 01 has them. */
+enum irr_refusal {
+    IRR_OK = 0,
+    /* sizes asked for */
+    IRR_SIZE_OUTSIDE = 1,    /* a size is 0 or above its limit */
+    IRR_BINS_ABOVE = 2,      /* more bins than buckets */
+    IRR_SIZE_BELOW = 3,      /* a size is below the old one */
+    IRR_SIZES_EQUAL = 4,     /* both sizes equal the old ones */
+    IRR_BLOCKS_FULL = 5,     /* more bins, with 65 blocks present */
+    IRR_INTERVALS_FULL = 8,  /* the new table needs more than 2,081 intervals */
+    /* what is asked of a map */
+    IRR_BUCKET_OUTSIDE = 6,  /* bucket not below B */
+    IRR_PLACE_OUTSIDE = 7,   /* bin not below n, or position not below the bin's size */
+    IRR_ORDER_OUTSIDE = 9,   /* first order number above the total, or expansions above 64 */
+    /* a lent table or a file */
+    IRR_WRONG_COUNT = 11,    /* B or a count outside its limits, a wrong length of array or file */
+    IRR_WRONG_TOP = 12,      /* tops that don't rise from above 0; the last above 65,535 or B */
+    IRR_WRONG_END = 13,      /* ends that don't rise from above 0; the last other than B */
+    IRR_WRONG_BLOCK = 14,    /* an interval's block not below the number of blocks */
+    IRR_WRONG_HOLDING = 15,  /* a block whose intervals hold another number than its due */
+    IRR_WRONG_ADJUSTMENT = 16, /* other than the buckets of other blocks before the interval */
+    /* lent room */
+    IRR_ROOM_SHORT = 21      /* below 65 tops or 2,081 of an interval array, or a file's length */
+};
+
+/* What travels with the four arrays of a table. */
+struct irr_header {
+    uint32_t buckets;        /* B */
+    uint32_t block_count;    /* entries of tops in use */
+    uint32_t interval_count; /* entries of ends, blocks and adjustments in use */
+};
+
+struct irr_table_reply {
+    uint32_t refusal;
+    uint32_t moved;           /* old buckets whose bin differs; 0 for irr_initial */
+    struct irr_header header; /* of the table written */
+};
+
+struct irr_relocations_reply {
+    uint32_t refusal;
+    uint32_t written; /* rows */
+    uint32_t total;   /* rows of the whole list */
+};
+
+struct irr_place_reply {
+    uint32_t refusal;
+    uint32_t bin;
+    uint32_t position;
+};
+
+struct irr_find_reply {
+    uint32_t refusal;
+    uint32_t bucket;
+};
+
+struct irr_bin_size_reply {
+    uint32_t refusal;
+    uint32_t buckets;
+};
+
+struct irr_room_reply {
+    uint32_t refusal;
+    uint32_t intervals;
+};
+
+struct irr_save_reply {
+    uint32_t refusal;
+    uint32_t length; /* bytes written */
+};
+
+struct irr_load_reply {
+    uint32_t refusal;
+    struct irr_header header; /* of the table written */
+};
+
+/*
+ * A fresh map of `buckets` in `bins`: one block, one interval.
+ * Refusals: 21, 1, 2. Writes entry 0 of each array.
+ */
+struct irr_table_reply irr_initial(
+    uint32_t buckets, uint32_t bins,
+    uint32_t *tops, size_t tops_len,
+    uint32_t *ends, size_t ends_len,
+    uint32_t *blocks, size_t blocks_len,
+    uint32_t *adjustments, size_t adjustments_len);
+
+/*
+ * The map of `buckets` in `bins` that follows the lent one, which is only read.
+ * Refusals: 21, 11, 12, 13, 14, 15, 16, 1, 2, 3, 4, 5, 8. Writes to the new arrays as many entries
+ * as the header of its reply counts.
+ */
+struct irr_table_reply irr_expand(
+    struct irr_header header,
+    const uint32_t *tops, size_t tops_len,
+    const uint32_t *ends, size_t ends_len,
+    const uint32_t *blocks, size_t blocks_len,
+    const uint32_t *adjustments, size_t adjustments_len,
+    uint32_t buckets, uint32_t bins,
+    uint32_t *new_tops, size_t new_tops_len,
+    uint32_t *new_ends, size_t new_ends_len,
+    uint32_t *new_blocks, size_t new_blocks_len,
+    uint32_t *new_adjustments, size_t new_adjustments_len);
+
+/*
+ * The move list of the expansion of the lent map to `buckets` in `bins`, from order number `first`
+ * (from 0) on. Rows rise by bucket; a row is bucket, old bin, old position, new bin, new position.
+ * Refusals: 11, 12, 13, 14, 15, 16, 1, 2, 3, 4, 5, 9; not 8. Writes as many rows as remain or fit
+ * whole into `rows`; `first` equal to the total writes none.
+ */
+struct irr_relocations_reply irr_relocations(
+    struct irr_header header,
+    const uint32_t *tops, size_t tops_len,
+    const uint32_t *ends, size_t ends_len,
+    const uint32_t *blocks, size_t blocks_len,
+    const uint32_t *adjustments, size_t adjustments_len,
+    uint32_t buckets, uint32_t bins, uint32_t first,
+    uint32_t *rows, size_t rows_len);
+
+/*
+ * The bin and the position of a bucket.
+ * Refusals: 11, 12, 13, 14, 15, 16, 6. Writes nothing.
+ */
+struct irr_place_reply irr_place(
+    struct irr_header header,
+    const uint32_t *tops, size_t tops_len,
+    const uint32_t *ends, size_t ends_len,
+    const uint32_t *blocks, size_t blocks_len,
+    const uint32_t *adjustments, size_t adjustments_len,
+    uint32_t bucket);
+
+/*
+ * The bucket at a position of a bin.
+ * Refusals: 11, 12, 13, 14, 15, 16, 7. Writes nothing.
+ */
+struct irr_find_reply irr_find(
+    struct irr_header header,
+    const uint32_t *tops, size_t tops_len,
+    const uint32_t *ends, size_t ends_len,
+    const uint32_t *blocks, size_t blocks_len,
+    const uint32_t *adjustments, size_t adjustments_len,
+    uint32_t bin, uint32_t position);
+
+/*
+ * The number of buckets in a bin (drawer count).
+ * Refusals: 11, 12, 13, 14, 15, 16, 7. Writes nothing.
+ */
+struct irr_bin_size_reply irr_bin_size(
+    struct irr_header header,
+    const uint32_t *tops, size_t tops_len,
+    const uint32_t *ends, size_t ends_len,
+    const uint32_t *blocks, size_t blocks_len,
+    const uint32_t *adjustments, size_t adjustments_len,
+    uint32_t bin);
+
+/*
+ * The intervals to set aside for m expansions: m(m+1)/2 + 1.
+ * Refusals: 9. Writes nothing.
+ */
+struct irr_room_reply irr_room(uint32_t expansions);
+
+/*
+ * The saved form of a table: 4-byte numbers, low byte first: B, the number of blocks and of
+ * intervals, the tops, the ends, the blocks of the intervals.
+ * Refusals: 11, 12, 13, 14, 15, 16, 21. Writes 12 + 4 * blocks + 8 * intervals bytes of `buffer`.
+ */
+struct irr_save_reply irr_save(
+    struct irr_header header,
+    const uint32_t *tops, size_t tops_len,
+    const uint32_t *ends, size_t ends_len,
+    const uint32_t *blocks, size_t blocks_len,
+    const uint32_t *adjustments, size_t adjustments_len,
+    uint8_t *buffer, size_t buffer_len);
+
+/*
+ * The table of a saved map; the adjustments, which are not saved, are worked out.
+ * Refusals: 21, 11, 12, 13, 14, 15. Writes as many entries as the header of its reply counts.
+ */
+struct irr_load_reply irr_load(
+    const uint8_t *bytes, size_t bytes_len,
+    uint32_t *tops, size_t tops_len,
+    uint32_t *ends, size_t ends_len,
+    uint32_t *blocks, size_t blocks_len,
+    uint32_t *adjustments, size_t adjustments_len);
+
+#ifdef __cplusplus
+}
+#endif
+
+#endif

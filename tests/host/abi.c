@@ -1,0 +1,237 @@
+/*
+ * The header against the archive: the layout of every struct, every field of every reply, headers
+ * by value, arrays of length 0 behind any pointer, and document 01's figures.
+ */
+#include <inttypes.h>
+#include <stdio.h>
+#include <string.h>
+
+#include "irr.h"
+
+#define AT(type, field, offset) \
+    _Static_assert(offsetof(struct type, field) == (offset), #type " " #field)
+#define SIZE(type, size) _Static_assert(sizeof(struct type) == (size), #type)
+
+SIZE(irr_header, 12);
+AT(irr_header, buckets, 0);
+AT(irr_header, block_count, 4);
+AT(irr_header, interval_count, 8);
+SIZE(irr_table_reply, 20);
+AT(irr_table_reply, refusal, 0);
+AT(irr_table_reply, moved, 4);
+AT(irr_table_reply, header, 8);
+SIZE(irr_relocations_reply, 12);
+AT(irr_relocations_reply, refusal, 0);
+AT(irr_relocations_reply, written, 4);
+AT(irr_relocations_reply, total, 8);
+SIZE(irr_place_reply, 12);
+AT(irr_place_reply, refusal, 0);
+AT(irr_place_reply, bin, 4);
+AT(irr_place_reply, position, 8);
+SIZE(irr_find_reply, 8);
+AT(irr_find_reply, refusal, 0);
+AT(irr_find_reply, bucket, 4);
+SIZE(irr_bin_size_reply, 8);
+AT(irr_bin_size_reply, refusal, 0);
+AT(irr_bin_size_reply, buckets, 4);
+SIZE(irr_room_reply, 8);
+AT(irr_room_reply, refusal, 0);
+AT(irr_room_reply, intervals, 4);
+SIZE(irr_save_reply, 8);
+AT(irr_save_reply, refusal, 0);
+AT(irr_save_reply, length, 4);
+SIZE(irr_load_reply, 16);
+AT(irr_load_reply, refusal, 0);
+AT(irr_load_reply, header, 4);
+
+_Static_assert(IRR_MAX_SAVED == 12 + 4 * IRR_MAX_BLOCKS + 8 * IRR_MAX_INTERVALS, "largest file");
+_Static_assert(IRR_MAX_INTERVALS == IRR_MAX_EXPANSIONS * (IRR_MAX_EXPANSIONS + 1) / 2 + 1, "room");
+_Static_assert(IRR_OK == 0 && IRR_SIZE_OUTSIDE == 1 && IRR_BINS_ABOVE == 2 &&
+                   IRR_SIZE_BELOW == 3 && IRR_SIZES_EQUAL == 4 && IRR_BLOCKS_FULL == 5 &&
+                   IRR_BUCKET_OUTSIDE == 6 && IRR_PLACE_OUTSIDE == 7 && IRR_INTERVALS_FULL == 8 &&
+                   IRR_ORDER_OUTSIDE == 9 && IRR_WRONG_COUNT == 11 && IRR_WRONG_TOP == 12 &&
+                   IRR_WRONG_END == 13 && IRR_WRONG_BLOCK == 14 && IRR_WRONG_HOLDING == 15 &&
+                   IRR_WRONG_ADJUSTMENT == 16 && IRR_ROOM_SHORT == 21,
+               "refusal numbers");
+
+struct table {
+    struct irr_header header;
+    uint32_t tops[IRR_MAX_BLOCKS];
+    uint32_t ends[IRR_MAX_INTERVALS], blocks[IRR_MAX_INTERVALS], adjustments[IRR_MAX_INTERVALS];
+};
+#define ARRAYS(t) \
+    (t)->tops, IRR_MAX_BLOCKS, (t)->ends, IRR_MAX_INTERVALS, (t)->blocks, IRR_MAX_INTERVALS, \
+        (t)->adjustments, IRR_MAX_INTERVALS
+#define NONE(p) p, 0, p, 0, p, 0, p, 0
+
+enum { MOST_NUMBERS = 9 };
+
+static int checks, faults;
+
+/* the numbers at `got`, n of them, against those expected */
+static void same(const char *what, const void *got, size_t n, const uint32_t *want)
+{
+    uint32_t numbers[MOST_NUMBERS];
+    memcpy(numbers, got, 4 * n);
+    checks++;
+    if (memcmp(numbers, want, 4 * n) == 0)
+        return;
+    faults++;
+    printf("FAULT %s:", what);
+    for (size_t i = 0; i < n; i++)
+        printf(" %" PRIu32 " (%" PRIu32 ")", numbers[i], want[i]);
+    printf("\n");
+}
+#define WANT(...) \
+    sizeof((const uint32_t[]){__VA_ARGS__}) / 4, (const uint32_t[]) { __VA_ARGS__ }
+
+/* the fields of a reply, by name */
+#define HEADER(h) (h).buckets, (h).block_count, (h).interval_count
+#define TABLE(r) (const uint32_t[]){(r).refusal, (r).moved, HEADER((r).header)}
+#define LIST(r) (const uint32_t[]){(r).refusal, (r).written, (r).total}
+#define PLACE(r) (const uint32_t[]){(r).refusal, (r).bin, (r).position}
+#define FIND(r) (const uint32_t[]){(r).refusal, (r).bucket}
+#define BIN_SIZE(r) (const uint32_t[]){(r).refusal, (r).buckets}
+#define ROOM(r) (const uint32_t[]){(r).refusal, (r).intervals}
+#define SAVE(r) (const uint32_t[]){(r).refusal, (r).length}
+#define LOAD(r) (const uint32_t[]){(r).refusal, HEADER((r).header)}
+
+static struct table a, b;
+
+/* each function once, accepted, every field of its reply; the figures of document 01 */
+static void check_replies(void)
+{
+    struct irr_table_reply table = irr_initial(10, 2, ARRAYS(&a));
+    same("irr_initial", TABLE(table), WANT(0, 0, 10, 1, 1));
+    a.header = table.header;
+    struct irr_place_reply place = irr_place(a.header, ARRAYS(&a), 7);
+    same("irr_place", PLACE(place), WANT(0, 1, 3));
+    uint32_t rows[3 * IRR_ROW + 1] = {0};
+    struct irr_relocations_reply list =
+        irr_relocations(a.header, ARRAYS(&a), 10, 3, 1, rows, 3 * IRR_ROW);
+    same("irr_relocations", LIST(list), WANT(0, 2, 3));
+    same("row 1", rows, WANT(8, 0, 4, 2, 1));
+    same("row 2", rows + IRR_ROW, WANT(9, 1, 4, 2, 2));
+    table = irr_expand(a.header, ARRAYS(&a), 10, 3, ARRAYS(&b));
+    same("irr_expand", TABLE(table), WANT(0, 3, 10, 2, 2));
+    b.header = table.header;
+    same("tops", b.tops, WANT(2, 3));
+    same("ends", b.ends, WANT(7, 10));
+    same("blocks", b.blocks, WANT(0, 1));
+    same("adjustments", b.adjustments, WANT(0, 7));
+    struct irr_find_reply find = irr_find(b.header, ARRAYS(&b), 2, 1);
+    same("irr_find", FIND(find), WANT(0, 8));
+    struct irr_bin_size_reply size = irr_bin_size(b.header, ARRAYS(&b), 0);
+    same("irr_bin_size", BIN_SIZE(size), WANT(0, 4));
+    struct irr_room_reply room = irr_room(64);
+    same("irr_room", ROOM(room), WANT(0, 2081));
+}
+
+/* the bytes of document 01's saved form of the map of 10 buckets in 3 bins */
+static void check_file(void)
+{
+    static const _Alignas(uint32_t) uint8_t want[36] = {
+        10, 0, 0, 0, 2, 0, 0, 0, 2, 0, 0, 0, 2, 0, 0, 0, 3, 0, 0, 0,
+        7, 0, 0, 0, 10, 0, 0, 0, 0, 0, 0, 0, 1, 0, 0, 0};
+    uint8_t file[40];
+    memset(file, 0xee, sizeof file);
+    struct irr_save_reply save = irr_save(b.header, ARRAYS(&b), file, sizeof file);
+    same("irr_save", SAVE(save), WANT(0, 36));
+    same("bytes", file, 9, (const uint32_t *)(const void *)want);
+    same("bytes past the file", file + 36, WANT(0xeeeeeeee));
+    struct irr_load_reply load = irr_load(file, 36, ARRAYS(&a));
+    same("irr_load", LOAD(load), WANT(0, 10, 2, 2));
+    same("loaded tops", a.tops, WANT(2, 3));
+    same("loaded ends", a.ends, WANT(7, 10));
+    same("loaded blocks", a.blocks, WANT(0, 1));
+    same("loaded adjustments", a.adjustments, WANT(0, 7));
+}
+
+/* the other figures: the table after each growth in turn */
+static void check_figures(void)
+{
+    struct irr_table_reply r = irr_expand(b.header, ARRAYS(&b), 14, 4, ARRAYS(&a));
+    same("(14, 4)", TABLE(r), WANT(0, 0, 14, 3, 4));
+    same("(14, 4) ends", a.ends, WANT(7, 10, 11, 14));
+    same("(14, 4) blocks", a.blocks, WANT(0, 1, 0, 2));
+    same("(14, 4) adjustments", a.adjustments, WANT(0, 7, 3, 11));
+    r = irr_expand(r.header, ARRAYS(&a), 14, 5, ARRAYS(&b));
+    same("(14, 5)", TABLE(r), WANT(0, 2, 14, 4, 5));
+    same("(14, 5) ends", b.ends, WANT(6, 7, 10, 11, 14));
+    same("(14, 5) blocks", b.blocks, WANT(0, 3, 1, 3, 2));
+    same("(14, 5) adjustments", b.adjustments, WANT(0, 6, 7, 9, 11));
+    r = irr_expand(r.header, ARRAYS(&b), 16, 5, ARRAYS(&a));
+    same("(16, 5)", TABLE(r), WANT(0, 0, 16, 4, 7));
+    same("(16, 5) ends", a.ends + 5, WANT(15, 16));
+    same("(16, 5) blocks", a.blocks + 5, WANT(0, 3));
+    same("(16, 5) adjustments", a.adjustments + 5, WANT(8, 13));
+    r = irr_initial(65535, 65535, ARRAYS(&a));
+    same("(65535, 65535)", TABLE(r), WANT(0, 0, 65535, 1, 1));
+    r = irr_initial(65536, 65536, ARRAYS(&a));
+    same("(65536, 65536)", TABLE(r), WANT(1, 0, 0, 0, 0));
+    r = irr_initial(1000000001, 1, ARRAYS(&a));
+    same("(1000000001, 1)", TABLE(r), WANT(1, 0, 0, 0, 0));
+}
+
+/* and those of small maps */
+static void check_small_figures(void)
+{
+    struct irr_table_reply r = irr_initial(1, 1, ARRAYS(&a));
+    same("(1, 1)", TABLE(r), WANT(0, 0, 1, 1, 1));
+    r = irr_initial(1, 2, ARRAYS(&a));
+    same("(1, 2)", TABLE(r), WANT(2, 0, 0, 0, 0));
+    r = irr_initial(4, 2, ARRAYS(&a));
+    a.header = r.header;
+    r = irr_expand(a.header, ARRAYS(&a), 6, 2, ARRAYS(&b));
+    same("(6, 2)", TABLE(r), WANT(0, 0, 6, 1, 1));
+    same("(6, 2) end", b.ends, WANT(6));
+    r = irr_expand(a.header, ARRAYS(&a), 5, 4, ARRAYS(&b));
+    same("(5, 4)", TABLE(r), WANT(0, 1, 5, 2, 2));
+    same("(5, 4) ends", b.ends, WANT(3, 5));
+    same("(5, 4) adjustments", b.adjustments, WANT(0, 3));
+}
+
+/* every array of length 0, its pointer anything: the refusal is that of the lengths */
+static void check_empty(uint32_t *p)
+{
+    struct irr_header header = {10, 1, 1};
+    uint8_t *bytes = (uint8_t *)p;
+    struct irr_table_reply table = irr_initial(10, 2, NONE(p));
+    same("irr_initial, empty", TABLE(table), WANT(21, 0, 0, 0, 0));
+    table = irr_expand(header, NONE(p), 10, 3, NONE(p));
+    same("irr_expand, empty", TABLE(table), WANT(21, 0, 0, 0, 0));
+    table = irr_expand(header, NONE(p), 10, 3, ARRAYS(&a));
+    same("irr_expand, empty table", TABLE(table), WANT(11, 0, 0, 0, 0));
+    struct irr_relocations_reply list = irr_relocations(header, NONE(p), 10, 3, 0, p, 0);
+    same("irr_relocations, empty", LIST(list), WANT(11, 0, 0));
+    struct irr_place_reply place = irr_place(header, NONE(p), 7);
+    same("irr_place, empty", PLACE(place), WANT(11, 0, 0));
+    struct irr_find_reply find = irr_find(header, NONE(p), 1, 1);
+    same("irr_find, empty", FIND(find), WANT(11, 0));
+    struct irr_bin_size_reply size = irr_bin_size(header, NONE(p), 1);
+    same("irr_bin_size, empty", BIN_SIZE(size), WANT(11, 0));
+    struct irr_save_reply save = irr_save(header, NONE(p), bytes, 0);
+    same("irr_save, empty", SAVE(save), WANT(11, 0));
+    struct irr_load_reply load = irr_load(bytes, 0, NONE(p));
+    same("irr_load, empty", LOAD(load), WANT(21, 0, 0, 0));
+    load = irr_load(bytes, 0, ARRAYS(&a));
+    same("irr_load, empty file", LOAD(load), WANT(11, 0, 0, 0));
+    table = irr_initial(10, 2, ARRAYS(&a));
+    list = irr_relocations(table.header, ARRAYS(&a), 10, 3, 0, p, 0);
+    same("irr_relocations, no rows", LIST(list), WANT(0, 0, 3));
+    save = irr_save(table.header, ARRAYS(&a), bytes, 0);
+    same("irr_save, no room", SAVE(save), WANT(21, 0));
+}
+
+int main(void)
+{
+    check_replies();
+    check_file();
+    check_figures();
+    check_small_figures();
+    check_empty(NULL);
+    check_empty((uint32_t *)(uintptr_t)1);
+    check_empty((uint32_t *)UINTPTR_MAX);
+    printf("%d checks, %d faults\n", checks, faults);
+    return faults != 0;
+}

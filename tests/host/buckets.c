@@ -1,0 +1,176 @@
+/* The archive against a full directory of buckets. */
+#include "buckets.h"
+
+#include <inttypes.h>
+#include <stdio.h>
+
+#include "calls.h"
+#include "directory.h"
+#include "random.h"
+
+#define TABLE(t)                                                                  \
+    (t)->header, (t)->tops, (t)->tops_len, (t)->ends, (t)->intervals_len, (t)->blocks, \
+        (t)->intervals_len, (t)->adjustments, (t)->intervals_len
+
+static struct directory before, after;
+static uint64_t maps, places, growths, rows_seen;
+
+static void read_directory(struct directory *d, const struct table *t)
+{
+    directory_read(d, t->header, t->tops, t->ends, t->blocks);
+}
+
+/* every bin holds its due size */
+static void check_sizes(const struct directory *d, const struct table *t)
+{
+    static int due[DIRECTORY_BUCKETS], size[DIRECTORY_BUCKETS];
+    int bins = directory_bins(d);
+    directory_due(d->buckets, bins, due);
+    for (int y = 0; y < bins; y++)
+        size[y] = 0;
+    for (int x = 0; x < d->buckets; x++)
+        size[d->bin[x]]++;
+    for (int y = 0; y < bins; y++) {
+        struct irr_bin_size_reply r = irr_bin_size(TABLE(t), (uint32_t)y);
+        if (size[y] != due[y])
+            fault("directory: bin, size, due", (uint32_t)y, (uint32_t)size[y], (uint32_t)due[y]);
+        if (r.refusal != 0 || r.buckets != (uint32_t)due[y])
+            fault("irr_bin_size: bin, size, due", (uint32_t)y, r.buckets, (uint32_t)due[y]);
+        if (irr_find(TABLE(t), (uint32_t)y, r.buckets).refusal != IRR_PLACE_OUTSIDE)
+            fault("irr_find past the end of bin", (uint32_t)y, r.buckets, 0);
+    }
+}
+
+/* place and find, of every bucket */
+static void check_places(const struct directory *d, const struct table *t)
+{
+    for (int x = 0; x < d->buckets; x++) {
+        uint32_t y = (uint32_t)d->bin[x], p = (uint32_t)d->position[x];
+        struct irr_place_reply place = irr_place(TABLE(t), (uint32_t)x);
+        struct irr_find_reply find = irr_find(TABLE(t), y, p);
+        if (place.refusal != 0 || place.bin != y || place.position != p)
+            fault("irr_place: bucket, bin, position", (uint32_t)x, place.bin, place.position);
+        if (find.refusal != 0 || find.bucket != (uint32_t)x)
+            fault("irr_find: bin, position, bucket", y, p, find.bucket);
+    }
+    places += (uint64_t)d->buckets;
+}
+
+void check_map(const struct table *t)
+{
+    if (t->header.buckets > DIRECTORY_BUCKETS)
+        return;
+    read_directory(&before, t);
+    check_sizes(&before, t);
+    check_places(&before, t);
+    maps++;
+}
+
+/* the table that the directory's growth gives is the one that the archive wrote */
+static void check_table(const struct directory *d, const struct table *t)
+{
+    static uint32_t ends[DIRECTORY_BUCKETS], blocks[DIRECTORY_BUCKETS];
+    static uint32_t adjustments[DIRECTORY_BUCKETS];
+    int k = directory_write(d, ends, blocks, adjustments);
+    if (d->blocks != (int)t->header.block_count || k != (int)t->header.interval_count ||
+        d->buckets != (int)t->header.buckets) {
+        fault("directory: buckets, blocks, intervals", (uint32_t)d->buckets, (uint32_t)d->blocks,
+              (uint32_t)k);
+        return;
+    }
+    for (int j = 0; j < d->blocks; j++)
+        if (d->tops[j] != (int)t->tops[j])
+            fault("top: block, directory, archive", (uint32_t)j, (uint32_t)d->tops[j], t->tops[j]);
+    for (int i = 0; i < k; i++) {
+        if (ends[i] != t->ends[i])
+            fault("end: interval, directory, archive", (uint32_t)i, ends[i], t->ends[i]);
+        if (blocks[i] != t->blocks[i])
+            fault("block: interval, directory, archive", (uint32_t)i, blocks[i], t->blocks[i]);
+        if (adjustments[i] != t->adjustments[i])
+            fault("adjustment: interval, directory, archive", (uint32_t)i, adjustments[i],
+                  t->adjustments[i]);
+    }
+}
+
+/* the old buckets whose bin differs; those that stay keep their position */
+static uint32_t count_moved(void)
+{
+    uint32_t moved = 0;
+    for (int x = 0; x < before.buckets; x++) {
+        if (before.bin[x] != after.bin[x])
+            moved++;
+        else if (before.position[x] != after.position[x])
+            fault("a bucket that stays changes position", (uint32_t)x,
+                  (uint32_t)before.position[x], (uint32_t)after.position[x]);
+    }
+    return moved;
+}
+
+/* max(0, B - T), T the most that the old bins hold in any balanced map of the new sizes */
+static uint32_t least_moved(uint32_t buckets, uint32_t bins, const struct table *grown)
+{
+    uint32_t b = grown->header.buckets, n = table_bins(grown);
+    uint32_t t = bins * (b / n) + (bins < b % n ? bins : b % n);
+    return buckets > t ? buckets - t : 0;
+}
+
+/* the rows of the archive, page by page, are the buckets whose bin differs, in rising order */
+static void check_rows(const struct table *old, const struct table *grown, uint32_t moved)
+{
+    uint32_t rows[IRR_ROW * 40], first = 0, i = 0;
+    size_t page = 1 + below(40);
+    struct irr_relocations_reply r = {0, 0, 0};
+    for (int x = 0; x < before.buckets; x++) {
+        if (before.bin[x] == after.bin[x])
+            continue;
+        if (i == r.written) {
+            first += r.written;
+            i = 0;
+            r = irr_relocations(TABLE(old), grown->header.buckets, table_bins(grown), first, rows,
+                                IRR_ROW * page);
+            if (r.refusal != 0 || r.total != moved || r.written == 0 || r.written > page) {
+                fault("irr_relocations: first, written, total", first, r.written, r.total);
+                return;
+            }
+        }
+        const uint32_t *row = rows + IRR_ROW * i++;
+        if (row[0] != (uint32_t)x || row[1] != (uint32_t)before.bin[x] ||
+            row[2] != (uint32_t)before.position[x] || row[3] != (uint32_t)after.bin[x] ||
+            row[4] != (uint32_t)after.position[x])
+            fault("row: bucket, row's bucket, row's new bin", (uint32_t)x, row[0], row[3]);
+    }
+    if (first + i != moved || i != r.written)
+        fault("rows: listed, moved, written last", first + i, moved, r.written);
+    rows_seen += moved;
+}
+
+void check_growth(const struct table *old, const struct table *grown, uint32_t moved)
+{
+    uint32_t least = least_moved(old->header.buckets, table_bins(old), grown);
+    struct irr_place_reply last = irr_place(TABLE(grown), grown->header.buckets - 1);
+    if (last.refusal != 0)
+        fault("a grown table refused: buckets, intervals, refusal", grown->header.buckets,
+              grown->header.interval_count, last.refusal);
+    if (least != moved)
+        fault("moved: least, archive", least, moved, 0);
+    if (grown->header.buckets > DIRECTORY_BUCKETS)
+        return;
+    read_directory(&before, old);
+    directory_grow(&before, (int)grown->header.buckets, (int)table_bins(grown), &after);
+    check_table(&after, grown);
+    if (count_moved() != moved)
+        fault("moved: directory, archive", count_moved(), moved, 0);
+    check_rows(old, grown, moved);
+    check_sizes(&after, grown);
+    check_places(&after, grown);
+    growths++;
+}
+
+void buckets_summary(void)
+{
+    printf("directory: %" PRIu64 " growths with %" PRIu64 " rows, %" PRIu64 " other maps, %" PRIu64
+           " buckets placed and found\n",
+           growths, rows_seen, maps, places);
+    if (growths == 0 || rows_seen == 0 || maps == 0)
+        fault("the directory was never compared", (uint32_t)growths, (uint32_t)rows_seen, 0);
+}

@@ -1,0 +1,76 @@
+/* Lengths that need more than 32 bits: reserved memory, of which only the start is open. */
+#define _DEFAULT_SOURCE
+#include <inttypes.h>
+#include <stdio.h>
+#include <sys/mman.h>
+
+#include "irr.h"
+
+#if SIZE_MAX > UINT32_MAX
+
+static const size_t huge = (size_t)1 << 32;
+enum { OPEN = 1 << 16, ARRAYS = 5 };
+
+static unsigned char *memory[ARRAYS];
+static int faults;
+
+static int reserve(void)
+{
+    for (int i = 0; i < ARRAYS; i++) {
+        void *all = mmap(NULL, 4 * huge + OPEN, PROT_NONE,
+                         MAP_PRIVATE | MAP_ANONYMOUS | MAP_NORESERVE, -1, 0);
+        if (all == MAP_FAILED || mprotect(all, OPEN, PROT_READ | PROT_WRITE) != 0)
+            return 0;
+        memory[i] = all;
+    }
+    return 1;
+}
+
+static uint32_t *array(int i)
+{
+    return (uint32_t *)(void *)memory[i];
+}
+#define FOUR(n) array(0), n, array(1), n, array(2), n, array(3), n
+
+static void want(const char *what, uint32_t got, uint32_t expected)
+{
+    if (got == expected)
+        return;
+    faults++;
+    printf("FAULT %s: %" PRIu32 ", not %" PRIu32 "\n", what, got, expected);
+}
+
+int main(void)
+{
+    if (!reserve()) {
+        printf("not run: no address space for arrays of more than 2^32 entries\n");
+        return 0;
+    }
+    struct irr_table_reply made = irr_initial(10, 2, FOUR(huge));
+    want("irr_initial, refusal", made.refusal, 0);
+    struct irr_header h = made.header;
+    want("irr_place, refusal", irr_place(h, FOUR(huge), 7).refusal, 0);
+    want("irr_place, bin", irr_place(h, FOUR(huge), 7).bin, 1);
+    want("irr_relocations, written",
+         irr_relocations(h, FOUR(huge), 10, 3, 0, array(4), huge).written, 3);
+    want("last row, bucket", array(4)[10], 9);
+    want("irr_relocations into 4 numbers more than 2^32, written",
+         irr_relocations(h, FOUR(huge + 1), 10, 3, 2, array(4), huge + 4).written, 1);
+    struct irr_save_reply saved = irr_save(h, FOUR(huge), memory[4], huge);
+    want("irr_save, length", saved.length, 24);
+    want("irr_load of 2^32 bytes too many", irr_load(memory[4], huge + 24, FOUR(huge)).refusal,
+         IRR_WRONG_COUNT);
+    want("irr_load", irr_load(memory[4], 24, FOUR(huge)).refusal, 0);
+    printf("lengths above 2^32: %d faults\n", faults);
+    return faults != 0;
+}
+
+#else
+
+int main(void)
+{
+    printf("not run: lengths have 32 bits\n");
+    return 0;
+}
+
+#endif

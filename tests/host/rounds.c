@@ -1,0 +1,216 @@
+/* Rounds of calls on one table. */
+#include "rounds.h"
+
+#include <string.h>
+
+#include "calls.h"
+#include "random.h"
+#include "reference.h"
+
+static struct table spare;
+
+static uint32_t one_of(const uint32_t *numbers, uint32_t n)
+{
+    return numbers[below(n)];
+}
+
+/* one of the numbers; C fixes no order among them, so none of them may itself be drawn */
+#define ONE_OF(...) \
+    one_of((const uint32_t[]){__VA_ARGS__}, \
+           (uint32_t)(sizeof((const uint32_t[]){__VA_ARGS__}) / sizeof(uint32_t)))
+
+/* SIZES ASKED FOR */
+
+void ask_growth(const struct table *t, uint32_t *buckets, uint32_t *bins)
+{
+    uint32_t b = t->header.buckets, n = table_bins(t);
+    switch (below(5)) {
+    case 0:
+        n += 1 + below(3);
+        break;
+    case 1:
+        b += 1 + below(2 * n + 2);
+        break;
+    case 2:
+        b += below(b / 4 + 2);
+        n += below(n / 2 + 2);
+        break;
+    case 3:
+        b += below(4);
+        n += below(3);
+        break;
+    default:
+        b += below(3 * n + 2);
+        n += 1 + below(n + 1);
+    }
+    *buckets = b;
+    *bins = n;
+}
+
+/* sizes of every kind: growths, and at or next to each limit */
+static void ask_sizes(const struct table *t, uint32_t *buckets, uint32_t *bins)
+{
+    uint32_t b = t->header.buckets, n = table_bins(t);
+    ask_growth(t, buckets, bins);
+    switch (below(12)) {
+    case 0:
+        *buckets = ONE_OF(0, 1, b - 1, b, b + 1, IRR_MAX_BUCKETS, IRR_MAX_BUCKETS + 1, UINT32_MAX);
+        break;
+    case 1:
+        *bins = ONE_OF(0, 1, n - 1, n, n + 1, IRR_MAX_BINS, IRR_MAX_BINS + 1, UINT32_MAX);
+        break;
+    case 2:
+        *buckets = ONE_OF(b, b, b - 1, *bins, *bins - 1);
+        *bins = ONE_OF(n, n, n - 1, n + 1, b, b + 1, *bins);
+        break;
+    case 3:
+        *buckets = IRR_MAX_BUCKETS - below(3);
+        *bins = ONE_OF(n, n + 1, *bins, IRR_MAX_BINS);
+        break;
+    default:
+        break;
+    }
+}
+
+/* THE CALLS ON A TABLE */
+
+static void try_expand(const struct table *t)
+{
+    uint32_t buckets, bins, moved;
+    ask_sizes(t, &buckets, &bins);
+    compare_expand(t, buckets, bins, &spare, &moved);
+}
+
+/* the rows of the whole list, or some number where there is no list */
+static uint32_t total_rows(const struct table *t, uint32_t buckets, uint32_t bins)
+{
+    struct irr_relocations_reply r = ref_relocations(
+        t->header, t->tops, t->tops_len, t->ends, t->intervals_len, t->blocks, t->intervals_len,
+        t->adjustments, t->intervals_len, buckets, bins, 0, NULL, 0);
+    return r.refusal == 0 ? r.total : below(9);
+}
+
+static void try_relocations(const struct table *t)
+{
+    uint32_t buckets, bins, total, any, late;
+    size_t rows_len = once_in(2) ? below(18) : once_in(4) ? below(2000) : below(120);
+    ask_sizes(t, &buckets, &bins);
+    total = total_rows(t, buckets, bins);
+    any = below(total + 1);
+    late = total - below(30);
+    compare_relocations(t, buckets, bins,
+                        ONE_OF(0, 0, total / 2, total - 1, total, total + 1, UINT32_MAX, any, any,
+                               any, late),
+                        rows_len);
+}
+
+static void try_place(const struct table *t)
+{
+    uint32_t b = t->header.buckets, end = t->ends[below(t->intervals_len)], any = below(b);
+    compare_place(t, ONE_OF(0, b - 1, b, b + 1, UINT32_MAX, end, end - 1, end + 1, any, any, any));
+}
+
+static void try_find(const struct table *t)
+{
+    uint32_t n = table_bins(t), size = n == 0 ? 0 : t->header.buckets / n;
+    uint32_t any_bin = below(n), any = below(size + 1);
+    uint32_t bin = ONE_OF(0, n - 1, n, UINT32_MAX, any_bin, any_bin, any_bin);
+    compare_find(t, bin, ONE_OF(0, size - 1, size, size + 1, UINT32_MAX, any, any, any));
+}
+
+static void try_bin_size(const struct table *t)
+{
+    uint32_t n = table_bins(t), top = t->tops[below(t->tops_len)], any = below(n);
+    compare_bin_size(t, ONE_OF(0, n - 1, n, n + 1, UINT32_MAX, top, top - 1, any, any));
+}
+
+static void try_save(const struct table *t)
+{
+    uint32_t exact = 12 + 4 * t->tops_len + 8 * t->intervals_len;
+    uint32_t less = below(exact), more = exact + below(50);
+    compare_save(t, ONE_OF(exact, exact, exact, exact + 5, exact - 1, 0, less, more));
+}
+
+void round_of_calls(const struct table *t, int times)
+{
+    for (int i = 0; i < times; i++) {
+        switch (below(8)) {
+        case 0: try_expand(t); break;
+        case 1: try_expand(t); break;
+        case 2: try_relocations(t); break;
+        case 3: try_relocations(t); break;
+        case 4: try_place(t); break;
+        case 5: try_find(t); break;
+        case 6: try_bin_size(t); break;
+        default: try_save(t);
+        }
+    }
+}
+
+/* FILES */
+
+/* flips one of the `bits` low bits of a byte at `from` or after it, below `to` */
+static void flip(uint8_t *bytes, uint32_t from, uint32_t to, uint32_t bits)
+{
+    uint32_t at = from + below(to - from);
+    bytes[at] ^= (uint8_t)(1u << below(bits));
+}
+
+/* harms a file of the given length; answers its length then */
+static size_t harm(uint8_t *bytes, size_t length)
+{
+    uint32_t n = (uint32_t)length, at = below(n);
+    switch (below(9)) {
+    case 0:
+        return once_in(2) ? at : length - 1 - below(4);
+    case 1:
+        return once_in(4) ? below(13) : length + 1 + below(9);
+    case 2:
+        flip(bytes, 0, 12, 8);
+        break;
+    case 3:
+        flip(bytes, 0, n, 8);
+        break;
+    case 4:
+        flip(bytes, 12, n, 4);
+        break;
+    case 5:
+        bytes[at] = (uint8_t)below(256);
+        flip(bytes, 0, n, 8);
+        break;
+    default:
+        break;
+    }
+    return length;
+}
+
+void round_of_files(const struct table *t, int times)
+{
+    static uint8_t whole[IRR_MAX_SAVED + 64], bytes[IRR_MAX_SAVED + 64];
+    size_t length = table_encode(t, whole);
+    for (int i = 0; i < times; i++) {
+        memcpy(bytes, whole, length);
+        for (size_t b = length; b < length + 16; b++)
+            bytes[b] = (uint8_t)below(256);
+        size_t left = harm(bytes, length);
+        if (once_in(40))
+            for (size_t b = 0; b < left; b++)
+                bytes[b] = (uint8_t)below(256);
+        compare_load(bytes, left, &spare);
+    }
+}
+
+/* SIZES AND ROOM */
+
+void round_of_sizes(void)
+{
+    uint32_t b = 1 + below(once_in(2) ? 100 : IRR_MAX_BUCKETS), n = 1 + below(IRR_MAX_BINS);
+    uint32_t any = (uint32_t)random_next(), m = below(65);
+    uint32_t buckets = ONE_OF(0, 1, 2, b, b, b, IRR_MAX_BINS - 1, IRR_MAX_BINS, IRR_MAX_BUCKETS,
+                              IRR_MAX_BUCKETS + 1, UINT32_MAX, any);
+    any = (uint32_t)random_next();
+    uint32_t bins = ONE_OF(0, 1, 2, b - 1, b, b + 1, n, IRR_MAX_BINS, IRR_MAX_BINS + 1, UINT32_MAX,
+                           any);
+    compare_initial(buckets, bins, &spare);
+    compare_room(ONE_OF(m, m, m, 63, 64, 65, 66, UINT32_MAX, any));
+}

@@ -1,0 +1,39 @@
+/* Tables for the tests: sound ones, and damaged ones. */
+#ifndef TABLES_H
+#define TABLES_H
+
+#include "irr.h"
+
+enum { TABLE_TOPS = IRR_MAX_BLOCKS + 1, TABLE_INTERVALS = IRR_MAX_INTERVALS + 1 };
+
+struct table {
+    struct irr_header header;
+    /* entries that the arrays really hold: the header of a damaged table may say otherwise */
+    uint32_t tops_len, intervals_len;
+    uint32_t tops[TABLE_TOPS];
+    uint32_t ends[TABLE_INTERVALS], blocks[TABLE_INTERVALS], adjustments[TABLE_INTERVALS];
+};
+
+/* a copy, of no more than what the arrays hold */
+void table_copy(struct table *to, const struct table *from);
+
+/* number of bins, or 0 where the table has no tops */
+uint32_t table_bins(const struct table *t);
+
+/* a random sound table, its intervals in any order of blocks; `most` bounds its blocks */
+void table_random(struct table *t, uint32_t buckets, uint32_t bins, uint32_t most);
+
+/* a sound table of exactly so many blocks and intervals, but for limits; buckets must abound */
+void table_exact(struct table *t, uint32_t buckets, uint32_t bins, uint32_t blocks,
+                 uint32_t intervals);
+
+/* the adjustments that the ends and blocks ask for */
+void table_adjust(struct table *t);
+
+/* does one random damage, of any kind */
+void table_damage(struct table *t);
+
+/* the saved form, unchecked; answers its length */
+size_t table_encode(const struct table *t, uint8_t *bytes);
+
+#endif
