@@ -53,9 +53,11 @@ enum irr_refusal {
     IRR_PLACE_OUTSIDE = 7,   /* bin not below n, or position not below the bin's size */
     IRR_ORDER_OUTSIDE = 9,   /* first order number above the total, or expansions above 64 */
     /* a lent table or a file */
-    IRR_WRONG_COUNT = 11,    /* B or a count outside its limits, a wrong length of array or file */
-    IRR_WRONG_TOP = 12,      /* tops that don't rise from above 0; the last above 65,535 or B */
-    IRR_WRONG_END = 13,      /* ends that don't rise from above 0; the last other than B */
+    IRR_WRONG_COUNT = 11,    /* B or a count outside its limits, an array shorter than its count,
+                                or a file of another length */
+    IRR_WRONG_TOP = 12,      /* tops that don't rise strictly, a first of 0, a last above 65,535
+                                or above B */
+    IRR_WRONG_END = 13,      /* ends that don't rise strictly, a first of 0, a last other than B */
     IRR_WRONG_BLOCK = 14,    /* an interval's block not below the number of blocks */
     IRR_WRONG_HOLDING = 15,  /* a block whose intervals hold another number than its due */
     IRR_WRONG_ADJUSTMENT = 16, /* other than the buckets of other blocks before the interval */

@@ -114,13 +114,13 @@ static size_t enough_or_more(size_t count)
 static void lend_table(const struct table *t)
 {
     const uint32_t *arrays[4] = {t->tops, t->ends, t->blocks, t->adjustments};
-    uint32_t victim = !lend_enough && once_in(25) ? below(4) : 4, met = once_in(2);
+    uint32_t short_one = !lend_enough && once_in(25) ? below(4) : 4, met = once_in(2);
     for (uint32_t i = 0; i < 4; i++) {
         size_t count = i == 0 ? t->tops_len : t->intervals_len, length = enough_or_more(count);
         size_t claimed = i == 0 ? t->header.block_count : t->header.interval_count;
         if (met && claimed > length && claimed <= IRR_MAX_INTERVALS + 1)
             length = claimed;
-        if (i == victim)
+        if (i == short_one)
             length = once_in(4) ? 0 : once_in(3) ? below((uint32_t)count) : count - 1;
         lent_junk(&in[i], 4 * length);
         lent_put(&in[i], arrays[i], 4 * count);
@@ -130,10 +130,10 @@ static void lend_table(const struct table *t)
 /* lends the four arrays of a table to write: at times longer, at times one of them too short */
 static void lend_room(void)
 {
-    uint32_t victim = !lend_enough && once_in(20) ? below(4) : 4;
+    uint32_t short_one = !lend_enough && once_in(20) ? below(4) : 4;
     for (uint32_t i = 0; i < 4; i++) {
         size_t count = i == 0 ? IRR_MAX_BLOCKS : IRR_MAX_INTERVALS, length = enough_or_more(count);
-        if (i == victim)
+        if (i == short_one)
             length = once_in(4) ? 0 : once_in(3) ? below((uint32_t)count) : count - 1;
         lent_junk(&out[i], 4 * length);
     }

@@ -144,21 +144,26 @@ static int adjustments_wrong(const struct view *v)
     return 0;
 }
 
-static uint32_t table_refusal(const struct view *v)
+/* 12 to 15, which tables and files share */
+static uint32_t shared_refusal(const struct view *v)
 {
-    if (counts_wrong(v) || arrays_short(v))
-        return 11;
     if (tops_wrong(v))
         return 12;
     if (ends_wrong(v))
         return 13;
     if (blocks_wrong(v))
         return 14;
-    if (holdings_wrong(v))
-        return 15;
-    if (adjustments_wrong(v))
-        return 16;
-    return 0;
+    return holdings_wrong(v) ? 15 : 0;
+}
+
+static uint32_t table_refusal(const struct view *v)
+{
+    if (counts_wrong(v) || arrays_short(v))
+        return 11;
+    uint32_t refusal = shared_refusal(v);
+    if (refusal != 0)
+        return refusal;
+    return adjustments_wrong(v) ? 16 : 0;
 }
 
 static void read_map(const struct view *v, struct map *m)
@@ -640,15 +645,7 @@ static uint32_t read_file(const uint8_t *bytes, size_t bytes_len, struct view *v
 
 static uint32_t file_refusal(const uint8_t *bytes, size_t bytes_len, struct view *v)
 {
-    if (read_file(bytes, bytes_len, v) != 0)
-        return 11;
-    if (tops_wrong(v))
-        return 12;
-    if (ends_wrong(v))
-        return 13;
-    if (blocks_wrong(v))
-        return 14;
-    return holdings_wrong(v) ? 15 : 0;
+    return read_file(bytes, bytes_len, v) != 0 ? 11 : shared_refusal(v);
 }
 
 struct irr_load_reply ref_load(const uint8_t *bytes, size_t bytes_len, REF_ROOM)

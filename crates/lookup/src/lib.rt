@@ -43,7 +43,7 @@ fn narrow(
 ) -> Span
     requires { ⌜ LentSound h (now tops) (now ends) (now blocks) (now adjustments) ⌝ }
     requires { ⌜ bucket < h .buckets ⌝ }
-    ensures { λ r. ⌜ Among (now (ends .entry)) (h .«interval_count») bucket (r .low) (r .count) ⌝ }
+    ensures { λ r. ⌜ (r .count ≤ 3) × Among (now (ends .entry)) (h .«interval_count») bucket (r .low) (r .count) ⌝ }
 {
     let mut low = 0;
     let mut count = h.interval_count as usize;
@@ -59,7 +59,7 @@ fn narrow(
 }
 
 // The interval of a bucket, and the bucket's rank.
-pub fn locate(
+fn locate(
     h: Header,
     tops: &[u32],
     ends: &[u32],
@@ -162,7 +162,7 @@ pub fn sized(
 }
 
 // The block of a bin: the first of `count` tops past it.
-pub fn block_of_bin(tops: &[u32], count: usize, bin: u32) -> usize
+fn block_of_bin(tops: &[u32], count: usize, bin: u32) -> usize
     requires { ⌜ count ≤ length (now tops) ⌝ }
     ensures { λ r. ⌜ r ≡ blockOfBin (take count (now (tops .entry))) bin ⌝ }
 {
@@ -177,7 +177,7 @@ pub fn block_of_bin(tops: &[u32], count: usize, bin: u32) -> usize
 }
 
 // The first interval of a block whose ranks include the given one.
-pub fn hold(
+fn hold(
     h: Header,
     tops: &[u32],
     ends: &[u32],

@@ -4,12 +4,14 @@ use console::list::list;
 use console::step::step;
 use session::state::State;
 ghost use mathlib.Core.Path.{_≡_};
+ghost use mathlib.Core.Bool.{true, false};
 ghost use Prim.Native.Nat.{_+_, _≤_};
 ghost use lib.ListN.{length, take};
 ghost use Rattle.model.specs.Table.{arrays};
 ghost use Rattle.model.specs.Console.{read as readOf};
 ghost use Rattle.session.specs.Maps.{Right, next as after};
-ghost use Rattle.console.specs.Rack.{rack, held};
+ghost use Rattle.console.specs.Rack.{rack, held, answerTo};
+ghost use Rattle.respond.specs.Buffer.{Pending, Printed};
 
 // After a line: the state, the place in `out` behind what is not yet written, and whether the output is still open.
 pub struct Turn {
@@ -98,7 +100,10 @@ fn settle(
         (arrays (now «second_tops») (now «second_ends») (now «second_blocks») (now «second_adjustments»))))
         ⌝ }
     requires { ⌜ reply .at ≤ 491584 ⌝ }
-    ensures { λ r. ⌜ (r .state ≡ reply .state) × (r .at + 64 ≤ 491584) ⌝ }
+    ensures turn { λ r. ⌜ (r .state ≡ reply .state) × (r .at + 64 ≤ 491584) ⌝ }
+    ensures pending { λ r.
+        ⌜ (reply .list ≡ false → Pending (reply .at) (now (rows .entry)) (now (out .entry)) (r .at) (now (rows .exit)) (now (out .exit))) ⌝ }
+    ensures listed { λ r. ⌜ (reply .list ≡ true → r .at ≡ 0) ⌝ }
 {
     let state = reply.state;
     let at = reply.at;
@@ -182,6 +187,17 @@ pub fn one(
         (arrays (now (tops .entry)) (now (ends .entry)) (now (blocks .entry)) (now (adjustments .entry)))
         (arrays (now («second_tops» .entry)) (now («second_ends» .entry)) (now («second_blocks» .entry)) (now («second_adjustments» .entry)))))
         (readOf (take kept (now (line .entry))))
+        ⌝ }
+    ensures printed { λ r.
+        ⌜
+        Printed
+        (answerTo
+        (rack state
+        (arrays (now (tops .entry)) (now (ends .entry)) (now (blocks .entry)) (now (adjustments .entry)))
+        (arrays (now («second_tops» .entry)) (now («second_ends» .entry)) (now («second_blocks» .entry)) (now («second_adjustments» .entry))))
+        (take kept (now (line .entry))))
+        at (now (rows .entry)) (now (out .entry))
+        (r .at) (now (rows .exit)) (now (out .exit))
         ⌝ }
 {
     let reply = step(

@@ -5,6 +5,7 @@ ghost use mathlib.Core.Path.{_≡_};
 ghost use mathlib.Core.List.{List, []};
 ghost use Prim.Native.Nat.{ℕ, _≤_};
 ghost use lib.ListN.{length, replicate};
+ghost use Rattle.model.specs.Limits.{maxBlocks};
 ghost use Rattle.model.specs.Table.{arrays};
 ghost use Rattle.model.specs.Refusal.{
   outside,
@@ -45,13 +46,7 @@ pub fn header_outside(h: Header) -> bool
 }
 
 // 11: a lent array shorter than its count.
-pub fn arrays_short(
-    h: Header,
-    tops: &[u32],
-    ends: &[u32],
-    blocks: &[u32],
-    adjustments: &[u32],
-) -> bool
+fn arrays_short(h: Header, tops: &[u32], ends: &[u32], blocks: &[u32], adjustments: &[u32]) -> bool
     ensures { λ r. ⌜ r ≡ arraysShort h (arrays (now (tops .entry)) (now (ends .entry)) (now (blocks .entry)) (now (adjustments .entry))) ⌝ }
 {
     let intervals = h.interval_count as usize;
@@ -68,7 +63,7 @@ pub fn arrays_short(
 }
 
 // Whether the first n entries rise strictly, and the first of them is not 0.
-pub fn rising(xs: &[u32], n: usize) -> bool
+fn rising(xs: &[u32], n: usize) -> bool
     requires { ⌜ n ≤ length (now xs) ⌝ }
     ensures { λ r. ⌜ r ≡ rises (now (xs .entry)) n ⌝ }
 {
@@ -87,7 +82,7 @@ pub fn rising(xs: &[u32], n: usize) -> bool
 }
 
 // 12: tops that don't rise strictly, a first top of 0, a last top above its limit or above B.
-pub fn tops_wrong(h: Header, tops: &[u32]) -> bool
+fn tops_wrong(h: Header, tops: &[u32]) -> bool
     requires { ⌜ (1 ≤ h .«block_count») × (h .«block_count» ≤ length (now tops)) ⌝ }
     ensures { λ r. ⌜ r ≡ topsWrong h (now (tops .entry)) ⌝ }
 {
@@ -103,7 +98,7 @@ pub fn tops_wrong(h: Header, tops: &[u32]) -> bool
 }
 
 // 13: ends that don't rise strictly, a first end of 0, or a last end other than B.
-pub fn ends_wrong(h: Header, ends: &[u32]) -> bool
+fn ends_wrong(h: Header, ends: &[u32]) -> bool
     requires { ⌜ (1 ≤ h .«interval_count») × (h .«interval_count» ≤ length (now ends)) ⌝ }
     ensures { λ r. ⌜ r ≡ endsWrong h (now (ends .entry)) ⌝ }
 {
@@ -115,7 +110,7 @@ pub fn ends_wrong(h: Header, ends: &[u32]) -> bool
 }
 
 // 14: an interval's block not below G.
-pub fn blocks_wrong(h: Header, blocks: &[u32]) -> bool
+fn blocks_wrong(h: Header, blocks: &[u32]) -> bool
     requires { ⌜ h .«interval_count» ≤ length (now blocks) ⌝ }
     ensures { λ r. ⌜ r ≡ blocksWrong h (now (blocks .entry)) ⌝ }
 {
@@ -141,7 +136,7 @@ fn walked(
 ) -> bool
     requires { ⌜ (IntervalsRight h (now ends) (now blocks))
         × (h .«interval_count» ≤ length (now adjustments))
-        × (now sums ≡ replicate 65 0) ⌝ }
+        × (now sums ≡ replicate maxBlocks 0) ⌝ }
     ensures { λ r. ⌜ (Held h (now (ends .entry)) (now (blocks .entry)) (now (sums .exit)))
         × (r ≡ adjustmentsWrong h (arrays [] (now (ends .entry)) (now (blocks .entry)) (now (adjustments .entry)))) ⌝ }
 {

@@ -25,7 +25,7 @@ narrow-requires c κs = (c .before .before .before .before .before .before .pre,
 
 loop-holds : tie.Need-loop-holds Inv-loop μ-loop
 loop-holds c =
-    let span = c .narrow .ensures in
+    let span = c .narrow .ensures .1 in
     record { some = span .some; within = omega arith; from = span .from; to = span .to }
 
 sub-count : tie.Need-sub-count Inv-loop μ-loop
@@ -50,7 +50,7 @@ loop-again : tie.Need-loop-again Inv-loop μ-loop
 loop-again c =
     let turn = c .before .before .before in
     let start = turn .before .before .before .before .before .before .before .before in
-    among-less (λ i l. start .pre .endsRise i (omega (arith, turn .before .narrow .ensures .within))) (turn .loop .inv) _ (omega arith)
+    among-less (λ i l. start .pre .endsRise i (omega (arith, turn .before .narrow .ensures .1 .within))) (turn .loop .inv) _ (omega arith)
     (c .past .ensures)
 
 mul-t16 : tie.Need-mul-t16 Inv-loop μ-loop

@@ -101,7 +101,7 @@ loop-less : tie.Need-loop-less Inv-loop μ-loop
 loop-less c = omega arith
 
 returns : tie.Need-returns Inv-loop μ-loop
-returns c = c .before .loop .inv
+returns c = (omega arith, c .before .loop .inv)
 
 pub narrow-spec : {M : Type 1} → statement M
 narrow-spec =

@@ -1,8 +1,8 @@
 -- `respond::one` meets its contract. Assumes nothing.
-use mathlib.Core.Path.{sym}
+use mathlib.Core.Path.{sym, _∙_}
 use native.Mathlib.Omega.{arith}
 use lib.Seq.{length-take-le}
-use Rattle.respond.proofs.Kept.{served-right, served-next, served-room, same-right}
+use Rattle.respond.proofs.Kept.{served-right, served-next, served-room, same-right, printed}
 use Rattle.respond.proofs.one.Statement.{statement}
 use Rattle.respond.proofs.one.Tie as tie
 
@@ -17,8 +17,11 @@ settle-requires c κs = (served-right _ _ _ _ _ (c .before .before .before .befo
 
 returns : tie.Need-returns
 returns c =
-    let e = c .settle .ensures in
-    (same-right _ _ _ _ (e .0) (served-right _ _ _ _ _ (c .before .before .before .before .before .before .before .before .before .before .before .before .before .before .before .before .before .before .before .before .before .before .before .pre .0) (c .before .before .before .before .before .before .before .before .before .before .before .step .ensures .0)), (e .1, served-next _ _ _ _ _ _ (e .0) (c .before .before .before .before .before .before .before .before .before .before .before .step .ensures .0)))
+    let ((state, room), (pending, listed)) = c .settle .ensures in
+    let (served, (place, bytes)) = c .before .before .before .before .before .before .before .before .before .before .before .step .ensures in (
+      same-right _ _ _ _ state (served-right _ _ _ _ _ (c .before .before .before .before .before .before .before .before .before .before .before .before .before .before .before .before .before .before .before .before .before .before .before .pre .0) served),
+      (room, (served-next _ _ _ _ _ _ state served, record { line = λ none. printed _ _ _ _ _ _ _ _ _ place bytes (pending (served .list ∙ none)); moves = λ l. listed (served .list ∙ l) })),
+    )
 
 pub one-spec : {M : Type 1} → statement M
 one-spec = tie.close (tie.spec slice-aggregate-step step-requires settle-requires returns)

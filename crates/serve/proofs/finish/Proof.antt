@@ -17,7 +17,7 @@ flush-requires c κs = omega (arith, c .before .before .before .one .ensures .1 
 returns-2 : tie.Need-returns-2
 returns-2 c =
     let done = c .before .before .one .ensures in
-    (done .0, (omega arith, (refl, ends-line _ _ _ _ (c .before .before .before .before .before .before .before .before .before .before .before .before .before .if1 .left) (done .1 .1))))
+    (done .0, (omega arith, (refl, ends-line _ _ _ _ (c .before .before .before .before .before .before .before .before .before .before .before .before .before .if1 .left) (done .1 .1 .0))))
 
 pub finish-spec : {M : Type 1} → statement M
 finish-spec = tie.close (tie.spec returns one-requires flush-requires returns-2)

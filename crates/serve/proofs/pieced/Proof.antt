@@ -40,7 +40,7 @@ returns-2 c =
       done .0,
       (
         (omega (arith, cut .0), omega (arith, within, ends), omega arith, done .1 .0),
-        obeys-line _ _ _ _ _ _ _ _ (cut .0) (cut .1) (cut .2) _ (omega (arith, within, ends)) (done .1 .1),
+        obeys-line _ _ _ _ _ _ _ _ (cut .0) (cut .1) (cut .2) _ (omega (arith, within, ends)) (done .1 .1 .0),
       ),
     )
 

@@ -61,7 +61,7 @@ returns-2 c =
       done .0,
       (
         (omega (arith, end), omega (arith, within, ends), omega arith, done .1 .0),
-        obeys-in-place _ _ _ _ _ _ end (omega (arith, within, ends)) (done .1 .1),
+        obeys-in-place _ _ _ _ _ _ end (omega (arith, within, ends)) (done .1 .1 .0),
       ),
     )
 
