@@ -1,7 +1,7 @@
 // The nine calls for C, declared in include/irr.h: each is the call of `irr` of its name, with its contract. A slice is a pointer
 // and a length.
 ghost use mathlib.Core.Path.{_≡_};
-ghost use Rattle.model.specs.Table.{arrays};
+ghost use Rattle.model.specs.Lent.{given, left};
 ghost use Rattle.model.specs.Calls.{
   initialReply,
   initialArrays,
@@ -18,7 +18,7 @@ ghost use Rattle.model.specs.Calls.{
   loadReply,
   loadArrays,
 };
-ghost use Rattle.model.specs.Console.{sizes as sizesOf};
+ghost use Rattle.model.specs.Table.{sizes};
 use model::reply::BinSizeReply;
 use model::reply::FindReply;
 use model::reply::LoadReply;
@@ -38,12 +38,12 @@ pub extern "C" fn irr_initial(
     blocks: &mut [u32],
     adjustments: &mut [u32],
 ) -> TableReply
-    ensures { λ r. ⌜ r ≡ initialReply (sizesOf buckets bins) (arrays (now (tops .entry)) (now (ends .entry)) (now (blocks .entry)) (now (adjustments .entry))) ⌝ }
+    ensures { λ r. ⌜ r ≡ initialReply (sizes buckets bins) (given tops ends blocks adjustments) ⌝ }
     ensures { λ _.
         ⌜
-        arrays (now (tops .exit)) (now (ends .exit)) (now (blocks .exit)) (now (adjustments .exit))
-        ≡ initialArrays (sizesOf buckets bins)
-        (arrays (now (tops .entry)) (now (ends .entry)) (now (blocks .entry)) (now (adjustments .entry)))
+        left tops ends blocks adjustments
+        ≡ initialArrays (sizes buckets bins)
+        (given tops ends blocks adjustments)
         ⌝ }
 {
     irr::initial(buckets, bins, tops, ends, blocks, adjustments)
@@ -66,16 +66,16 @@ pub extern "C" fn irr_expand(
     ensures { λ r.
         ⌜
         r
-        ≡ expandReply header (arrays (now (tops .entry)) (now (ends .entry)) (now (blocks .entry)) (now (adjustments .entry)))
-        (sizesOf buckets bins)
-        (arrays (now («new_tops» .entry)) (now («new_ends» .entry)) (now («new_blocks» .entry)) (now («new_adjustments» .entry)))
+        ≡ expandReply header (given tops ends blocks adjustments)
+        (sizes buckets bins)
+        (given «new_tops» «new_ends» «new_blocks» «new_adjustments»)
         ⌝ }
     ensures { λ _.
         ⌜
-        arrays (now («new_tops» .exit)) (now («new_ends» .exit)) (now («new_blocks» .exit)) (now («new_adjustments» .exit))
-        ≡ expandArrays header (arrays (now (tops .entry)) (now (ends .entry)) (now (blocks .entry)) (now (adjustments .entry)))
-        (sizesOf buckets bins)
-        (arrays (now («new_tops» .entry)) (now («new_ends» .entry)) (now («new_blocks» .entry)) (now («new_adjustments» .entry)))
+        left «new_tops» «new_ends» «new_blocks» «new_adjustments»
+        ≡ expandArrays header (given tops ends blocks adjustments)
+        (sizes buckets bins)
+        (given «new_tops» «new_ends» «new_blocks» «new_adjustments»)
         ⌝ }
 {
     irr::expand(
@@ -108,14 +108,14 @@ pub extern "C" fn irr_relocations(
     ensures { λ r.
         ⌜
         r
-        ≡ relocationsReply header (arrays (now (tops .entry)) (now (ends .entry)) (now (blocks .entry)) (now (adjustments .entry)))
-        (sizesOf buckets bins) first (now (rows .entry))
+        ≡ relocationsReply header (given tops ends blocks adjustments)
+        (sizes buckets bins) first (now (rows .entry))
         ⌝ }
     ensures { λ _.
         ⌜
         now (rows .exit)
-        ≡ relocationsRows header (arrays (now (tops .entry)) (now (ends .entry)) (now (blocks .entry)) (now (adjustments .entry)))
-        (sizesOf buckets bins) first (now (rows .entry))
+        ≡ relocationsRows header (given tops ends blocks adjustments)
+        (sizes buckets bins) first (now (rows .entry))
         ⌝ }
 {
     irr::relocations(
@@ -140,7 +140,7 @@ pub extern "C" fn irr_place(
     adjustments: &[u32],
     bucket: u32,
 ) -> PlaceReply
-    ensures { λ r. ⌜ r ≡ placeReply header (arrays (now (tops .entry)) (now (ends .entry)) (now (blocks .entry)) (now (adjustments .entry))) bucket ⌝ }
+    ensures { λ r. ⌜ r ≡ placeReply header (given tops ends blocks adjustments) bucket ⌝ }
 {
     irr::place(header, tops, ends, blocks, adjustments, bucket)
 }
@@ -155,7 +155,7 @@ pub extern "C" fn irr_find(
     bin: u32,
     position: u32,
 ) -> FindReply
-    ensures { λ r. ⌜ r ≡ findReply header (arrays (now (tops .entry)) (now (ends .entry)) (now (blocks .entry)) (now (adjustments .entry))) bin position ⌝ }
+    ensures { λ r. ⌜ r ≡ findReply header (given tops ends blocks adjustments) bin position ⌝ }
 {
     irr::find(header, tops, ends, blocks, adjustments, bin, position)
 }
@@ -169,7 +169,7 @@ pub extern "C" fn irr_bin_size(
     adjustments: &[u32],
     bin: u32,
 ) -> BinSizeReply
-    ensures { λ r. ⌜ r ≡ binSizeReply header (arrays (now (tops .entry)) (now (ends .entry)) (now (blocks .entry)) (now (adjustments .entry))) bin ⌝ }
+    ensures { λ r. ⌜ r ≡ binSizeReply header (given tops ends blocks adjustments) bin ⌝ }
 {
     irr::bin_size(header, tops, ends, blocks, adjustments, bin)
 }
@@ -193,13 +193,13 @@ pub extern "C" fn irr_save(
     ensures { λ r.
         ⌜
         r
-        ≡ saveReply header (arrays (now (tops .entry)) (now (ends .entry)) (now (blocks .entry)) (now (adjustments .entry)))
+        ≡ saveReply header (given tops ends blocks adjustments)
         (now (buffer .entry))
         ⌝ }
     ensures { λ _.
         ⌜
         now (buffer .exit)
-        ≡ saveBytes header (arrays (now (tops .entry)) (now (ends .entry)) (now (blocks .entry)) (now (adjustments .entry)))
+        ≡ saveBytes header (given tops ends blocks adjustments)
         (now (buffer .entry))
         ⌝ }
 {
@@ -218,13 +218,13 @@ pub extern "C" fn irr_load(
         ⌜
         r
         ≡ loadReply (now (bytes .entry))
-        (arrays (now (tops .entry)) (now (ends .entry)) (now (blocks .entry)) (now (adjustments .entry)))
+        (given tops ends blocks adjustments)
         ⌝ }
     ensures { λ _.
         ⌜
-        arrays (now (tops .exit)) (now (ends .exit)) (now (blocks .exit)) (now (adjustments .exit))
+        left tops ends blocks adjustments
         ≡ loadArrays (now (bytes .entry))
-        (arrays (now (tops .entry)) (now (ends .entry)) (now (blocks .entry)) (now (adjustments .entry)))
+        (given tops ends blocks adjustments)
         ⌝ }
 {
     irr::load(bytes, tops, ends, blocks, adjustments)

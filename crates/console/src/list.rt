@@ -7,7 +7,7 @@ ghost use mathlib.Core.Path.{_≡_};
 ghost use Prim.Native.Nat.{_+_, _*_, _≤_};
 ghost use lib.ListN.{length};
 ghost use lib.Seq.{sets};
-ghost use Rattle.model.specs.Table.{arrays};
+ghost use Rattle.model.specs.Lent.{given, arraysNow};
 ghost use Rattle.model.specs.Relocations.{rows as rowsOf};
 ghost use Rattle.session.specs.Maps.{maps, mapOf, beforeOf, session as sessionOf, GrownFrom, Right};
 ghost use Rattle.console.specs.Rack.{rack, held};
@@ -56,8 +56,8 @@ fn page(
     requires { ⌜
         GrownFrom
         (maps state
-        (arrays (now tops) (now ends) (now blocks) (now adjustments))
-        (arrays (now «other_tops») (now «other_ends») (now «other_blocks») (now «other_adjustments»)))
+        (arraysNow tops ends blocks adjustments)
+        (arraysNow «other_tops» «other_ends» «other_blocks» «other_adjustments»))
         ⌝ }
     requires { ⌜ 12 * length (now rows) + 64 ≤ length (now out) ⌝ }
     ensures { λ r.
@@ -66,12 +66,12 @@ fn page(
         (rowsOf
         (beforeOf
         (maps state
-        (arrays (now (tops .entry)) (now (ends .entry)) (now (blocks .entry)) (now (adjustments .entry)))
-        (arrays (now («other_tops» .entry)) (now («other_ends» .entry)) (now («other_blocks» .entry)) (now («other_adjustments» .entry)))))
+        (given tops ends blocks adjustments)
+        (given «other_tops» «other_ends» «other_blocks» «other_adjustments»)))
         (mapOf
         (maps state
-        (arrays (now (tops .entry)) (now (ends .entry)) (now (blocks .entry)) (now (adjustments .entry)))
-        (arrays (now («other_tops» .entry)) (now («other_ends» .entry)) (now («other_blocks» .entry)) (now («other_adjustments» .entry))))))
+        (given tops ends blocks adjustments)
+        (given «other_tops» «other_ends» «other_blocks» «other_adjustments»))))
         first (now (rows .entry)) (now (rows .exit)) (now (out .entry)) (now (out .exit)) r
         ⌝ }
 {
@@ -113,8 +113,8 @@ fn listed(
     requires { ⌜
         Right
         (maps state
-        (arrays (now tops) (now ends) (now blocks) (now adjustments))
-        (arrays (now «other_tops») (now «other_ends») (now «other_blocks») (now «other_adjustments»)))
+        (arraysNow tops ends blocks adjustments)
+        (arraysNow «other_tops» «other_ends» «other_blocks» «other_adjustments»))
         ⌝ }
     requires { ⌜ 12 * length (now rows) + 64 ≤ length (now out) ⌝ }
     ensures { λ r.
@@ -123,8 +123,8 @@ fn listed(
         (movesOf
         (sessionOf
         (maps state
-        (arrays (now (tops .entry)) (now (ends .entry)) (now (blocks .entry)) (now (adjustments .entry)))
-        (arrays (now («other_tops» .entry)) (now («other_ends» .entry)) (now («other_blocks» .entry)) (now («other_adjustments» .entry))))))
+        (given tops ends blocks adjustments)
+        (given «other_tops» «other_ends» «other_blocks» «other_adjustments»))))
         first (now (rows .entry)) (now (rows .exit)) (now (out .entry)) (now (out .exit)) r
         ⌝ }
 {
@@ -168,8 +168,8 @@ pub fn list(
         Right
         (held
         (rack state
-        (arrays (now tops) (now ends) (now blocks) (now adjustments))
-        (arrays (now «second_tops») (now «second_ends») (now «second_blocks») (now «second_adjustments»))))
+        (arraysNow tops ends blocks adjustments)
+        (arraysNow «second_tops» «second_ends» «second_blocks» «second_adjustments»)))
         ⌝ }
     requires { ⌜ 12 * length (now rows) + 64 ≤ length (now out) ⌝ }
     ensures { λ r.
@@ -179,8 +179,8 @@ pub fn list(
         (sessionOf
         (held
         (rack state
-        (arrays (now (tops .entry)) (now (ends .entry)) (now (blocks .entry)) (now (adjustments .entry)))
-        (arrays (now («second_tops» .entry)) (now («second_ends» .entry)) (now («second_blocks» .entry)) (now («second_adjustments» .entry)))))))
+        (given tops ends blocks adjustments)
+        (given «second_tops» «second_ends» «second_blocks» «second_adjustments»)))))
         first (now (rows .entry)) (now (rows .exit)) (now (out .entry)) (now (out .exit)) r
         ⌝ }
 {

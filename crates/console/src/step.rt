@@ -13,9 +13,9 @@ ghost use mathlib.Core.Path.{_≡_};
 ghost use Prim.Native.Nat.{_+_, _≤_};
 ghost use lib.ListN.{length};
 ghost use lib.Seq.{sets};
-ghost use Rattle.model.specs.Table.{arrays};
 ghost use Rattle.session.specs.Maps.{Right};
 ghost use Rattle.console.specs.Rack.{rack, held, shown, isList, answerTo, Served};
+ghost use Rattle.model.specs.Lent.{given, left, arraysNow};
 
 // The line of an answer; the `move` lines are listed apart.
 fn show(answer: Answer, out: &mut [u8], at: usize) -> usize
@@ -91,19 +91,19 @@ pub fn step(
         Right
         (held
         (rack state
-        (arrays (now tops) (now ends) (now blocks) (now adjustments))
-        (arrays (now «second_tops») (now «second_ends») (now «second_blocks») (now «second_adjustments»))))
+        (arraysNow tops ends blocks adjustments)
+        (arraysNow «second_tops» «second_ends» «second_blocks» «second_adjustments»)))
         ⌝ }
     ensures served { λ r.
         ⌜
         Served
         (rack state
-        (arrays (now (tops .entry)) (now (ends .entry)) (now (blocks .entry)) (now (adjustments .entry)))
-        (arrays (now («second_tops» .entry)) (now («second_ends» .entry)) (now («second_blocks» .entry)) (now («second_adjustments» .entry))))
+        (given tops ends blocks adjustments)
+        (given «second_tops» «second_ends» «second_blocks» «second_adjustments»))
         (now (line .entry))
         r
-        (arrays (now (tops .exit)) (now (ends .exit)) (now (blocks .exit)) (now (adjustments .exit)))
-        (arrays (now («second_tops» .exit)) (now («second_ends» .exit)) (now («second_blocks» .exit)) (now («second_adjustments» .exit)))
+        (left tops ends blocks adjustments)
+        (left «second_tops» «second_ends» «second_blocks» «second_adjustments»)
         ⌝ }
     ensures place { λ r.
         ⌜
@@ -113,8 +113,8 @@ pub fn step(
         (shown
         (answerTo
         (rack state
-        (arrays (now (tops .entry)) (now (ends .entry)) (now (blocks .entry)) (now (adjustments .entry)))
-        (arrays (now («second_tops» .entry)) (now («second_ends» .entry)) (now («second_blocks» .entry)) (now («second_adjustments» .entry))))
+        (given tops ends blocks adjustments)
+        (given «second_tops» «second_ends» «second_blocks» «second_adjustments»))
         (now (line .entry))))
         ⌝ }
     ensures bytes { λ _.
@@ -124,8 +124,8 @@ pub fn step(
         (shown
         (answerTo
         (rack state
-        (arrays (now (tops .entry)) (now (ends .entry)) (now (blocks .entry)) (now (adjustments .entry)))
-        (arrays (now («second_tops» .entry)) (now («second_ends» .entry)) (now («second_blocks» .entry)) (now («second_adjustments» .entry))))
+        (given tops ends blocks adjustments)
+        (given «second_tops» «second_ends» «second_blocks» «second_adjustments»))
         (now (line .entry))))
         ⌝ }
 {

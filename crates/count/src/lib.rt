@@ -8,12 +8,11 @@ use plan::some_fall;
 ghost use mathlib.Core.Path.{_≡_};
 ghost use Prim.Native.Nat.{ℕ, _≤_, _<_};
 ghost use lib.ListN.{length};
-ghost use Rattle.model.specs.Table.{Interval, arrays};
+ghost use Rattle.model.specs.Lent.{LentSound, arraysNow, tableGiven, tableNow};
+ghost use Rattle.model.specs.Table.{Interval, sizes};
 ghost use Rattle.model.specs.Refusal.{first};
 ghost use Rattle.model.specs.Expansion.{newTops, pieces as piecesOf, drained, movedAfter, expanded, moved as movedOf};
 ghost use Rattle.model.specs.Calls.{growthTests};
-ghost use Rattle.model.specs.Console.{sizes as sizesOf};
-ghost use Rattle.model.specs.Lent.{lent, LentSound};
 ghost use Rattle.plan.specs.Shares.{DuesBefore, DuesAfter};
 ghost use Rattle.count.specs.Given.{Drains, Fills};
 ghost use Rattle.count.specs.Made.{made, leftBehind, pieceOf};
@@ -66,23 +65,23 @@ fn count_drained(
     bins: u32,
     dues: &[u32; 65],
 ) -> Growth
-    requires { ⌜ Drains h (arrays (now tops) (now ends) (now blocks) (now adjustments)) (sizesOf buckets bins) (now dues) ⌝ }
+    requires { ⌜ Drains h (arraysNow tops ends blocks adjustments) (sizes buckets bins) (now dues) ⌝ }
     ensures intervals { λ r.
         ⌜
         r .intervals
         ≡ length
         (drained
-        (lent h (now (tops .entry)) (now (ends .entry)) (now (blocks .entry)) (now (adjustments .entry)))
-        (sizesOf buckets bins))
+        (tableGiven h tops ends blocks adjustments)
+        (sizes buckets bins))
         ⌝ }
     ensures moved { λ r.
         ⌜
         r .moved
         ≡ movedAfter
-        (lent h (now (tops .entry)) (now (ends .entry)) (now (blocks .entry)) (now (adjustments .entry)))
-        (sizesOf buckets bins)
+        (tableGiven h tops ends blocks adjustments)
+        (sizes buckets bins)
         0
-        (lent h (now (tops .entry)) (now (ends .entry)) (now (blocks .entry)) (now (adjustments .entry)) .intervals)
+        (tableGiven h tops ends blocks adjustments .intervals)
         0
         ⌝ }
 {
@@ -125,14 +124,14 @@ pub fn piece(
     dues: &[u32; 65],
     j: usize,
 ) -> u32
-    requires { ⌜ Fills h (arrays (now tops) (now ends) (now blocks) (now adjustments)) (sizesOf buckets bins) (now olds) (now dues) ⌝ }
+    requires { ⌜ Fills h (arraysNow tops ends blocks adjustments) (sizes buckets bins) (now olds) (now dues) ⌝ }
     requires { ⌜ j < 65 ⌝ }
     ensures { λ r.
         ⌜
         r
         ≡ pieceOf
-        (lent h (now (tops .entry)) (now (ends .entry)) (now (blocks .entry)) (now (adjustments .entry)))
-        (sizesOf buckets bins)
+        (tableGiven h tops ends blocks adjustments)
+        (sizes buckets bins)
         j
         ⌝ }
 {
@@ -154,7 +153,7 @@ fn count_pieces(
     olds: &[u32; 65],
     dues: &[u32; 65],
 ) -> u32
-    requires { ⌜ Fills h (arrays (now tops) (now ends) (now blocks) (now adjustments)) (sizesOf buckets bins) (now olds) (now dues) ⌝ }
+    requires { ⌜ Fills h (arraysNow tops ends blocks adjustments) (sizes buckets bins) (now olds) (now dues) ⌝ }
     ensures { λ r.
         ⌜
         (r ≤ 65)
@@ -162,14 +161,14 @@ fn count_pieces(
         → r
         ≡ length
         (piecesOf
-        (lent h (now (tops .entry)) (now (ends .entry)) (now (blocks .entry)) (now (adjustments .entry)))
-        (sizesOf buckets bins)
+        (tableGiven h tops ends blocks adjustments)
+        (sizes buckets bins)
         c
         0
         (length
         (newTops
-        (lent h (now (tops .entry)) (now (ends .entry)) (now (blocks .entry)) (now (adjustments .entry)))
-        (sizesOf buckets bins)))))
+        (tableGiven h tops ends blocks adjustments)
+        (sizes buckets bins)))))
         ⌝ }
 {
     let count = blocks_after(h, tops, ends, blocks, adjustments, buckets, bins) as usize;
@@ -209,27 +208,27 @@ pub fn measure(
     olds: &[u32; 65],
     dues: &[u32; 65],
 ) -> Growth
-    requires { ⌜ LentSound h (now tops) (now ends) (now blocks) (now adjustments) ⌝ }
-    requires { ⌜ first (growthTests (lent h (now tops) (now ends) (now blocks) (now adjustments)) (sizesOf buckets bins)) ≡ 0 ⌝ }
-    requires { ⌜ DuesBefore (lent h (now tops) (now ends) (now blocks) (now adjustments)) (now olds) ⌝ }
-    requires { ⌜ DuesAfter (lent h (now tops) (now ends) (now blocks) (now adjustments)) (sizesOf buckets bins) (now dues) ⌝ }
+    requires { ⌜ LentSound h tops ends blocks adjustments ⌝ }
+    requires { ⌜ first (growthTests (tableNow h tops ends blocks adjustments) (sizes buckets bins)) ≡ 0 ⌝ }
+    requires { ⌜ DuesBefore (tableNow h tops ends blocks adjustments) (now olds) ⌝ }
+    requires { ⌜ DuesAfter (tableNow h tops ends blocks adjustments) (sizes buckets bins) (now dues) ⌝ }
     ensures intervals { λ r.
         ⌜
         r .intervals
         ≡ length
         (expanded
-        (lent h (now (tops .entry)) (now (ends .entry)) (now (blocks .entry)) (now (adjustments .entry)))
-        (sizesOf buckets bins)
+        (tableGiven h tops ends blocks adjustments)
+        (sizes buckets bins)
         .intervals)
         ⌝ }
     ensures moved { λ r.
         ⌜
         r .moved
         ≡ movedOf
-        (lent h (now (tops .entry)) (now (ends .entry)) (now (blocks .entry)) (now (adjustments .entry)))
+        (tableGiven h tops ends blocks adjustments)
         (expanded
-        (lent h (now (tops .entry)) (now (ends .entry)) (now (blocks .entry)) (now (adjustments .entry)))
-        (sizesOf buckets bins))
+        (tableGiven h tops ends blocks adjustments)
+        (sizes buckets bins))
         ⌝ }
 {
     if some_fall(

@@ -9,10 +9,9 @@ ghost use mathlib.Core.List.{[], _∷_};
 ghost use Prim.Native.Nat.{_+_, _^_, _≤_, _<_};
 ghost use mathlib.Core.Path.{_≡_};
 ghost use lib.ListN.{length};
-ghost use Rattle.model.specs.Table.{interval, arrays};
-ghost use Rattle.model.specs.Lent.{lent};
+ghost use Rattle.model.specs.Lent.{arraysNow, tableGiven, tableNow};
+ghost use Rattle.model.specs.Table.{interval, sizes};
 ghost use Rattle.model.specs.Expansion.{drained};
-ghost use Rattle.model.specs.Console.{sizes as sizesOf};
 ghost use Rattle.count.specs.Given.{Drains};
 ghost use Rattle.count.specs.Made.{made};
 ghost use Rattle.drain.specs.Stored.{Room, Stored};
@@ -158,17 +157,17 @@ pub fn write_drained(
     new_blocks: &mut [u32],
     new_adjustments: &mut [u32],
 )
-    requires { ⌜ Drains h (arrays (now tops) (now ends) (now blocks) (now adjustments)) (sizesOf buckets bins) (now dues) ⌝ }
+    requires { ⌜ Drains h (arraysNow tops ends blocks adjustments) (sizes buckets bins) (now dues) ⌝ }
     requires { ⌜
-        Room (length (drained (lent h (now tops) (now ends) (now blocks) (now adjustments)) (sizesOf buckets bins)))
+        Room (length (drained (tableNow h tops ends blocks adjustments) (sizes buckets bins)))
         (now «new_ends») (now «new_blocks») (now «new_adjustments»)
         ⌝ }
     ensures { λ _.
         ⌜
         Stored 0
         (drained
-        (lent h (now (tops .entry)) (now (ends .entry)) (now (blocks .entry)) (now (adjustments .entry)))
-        (sizesOf buckets bins))
+        (tableGiven h tops ends blocks adjustments)
+        (sizes buckets bins))
         (now («new_ends» .entry)) (now («new_blocks» .entry)) (now («new_adjustments» .entry))
         (now («new_ends» .exit)) (now («new_blocks» .exit)) (now («new_adjustments» .exit))
         ⌝ }

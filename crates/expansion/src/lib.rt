@@ -12,16 +12,15 @@ ghost use mathlib.Core.Path.{_≡_};
 ghost use Prim.Native.Nat.{_+_, _≤_, _<_};
 ghost use lib.ListN.{length, take};
 ghost use lib.Seq.{sets};
+ghost use Rattle.model.specs.Lent.{LentSound, given, left, arraysNow, tableGiven, tableNow};
 ghost use Rattle.model.specs.Basics.{from};
 ghost use Rattle.model.specs.Limits.{maxBlocks, maxIntervals};
-ghost use Rattle.model.specs.Table.{arrays, over, written};
+ghost use Rattle.model.specs.Table.{arrays, over, written, sizes};
 ghost use Rattle.model.specs.Refusal.{first, roomShort};
 ghost use Rattle.model.specs.Expansion.{newTops, pieces as piecesOf, filled, expanded};
 ghost use Rattle.model.specs.Calls.{growthTests};
-ghost use Rattle.model.specs.Console.{sizes as sizesOf};
 ghost use Rattle.model.proofs.Tables.{lentInterval};
 ghost use Rattle.model.proofs.Filled.{lengthTo};
-ghost use Rattle.model.specs.Lent.{lent, LentSound};
 ghost use Rattle.plan.specs.Shares.{DuesBefore, DuesAfter};
 ghost use Rattle.count.specs.Given.{Fills};
 ghost use Rattle.drain.specs.Stored.{Room, Stored};
@@ -54,24 +53,24 @@ fn write_pieces(
     new_blocks: &mut [u32],
     new_adjustments: &mut [u32],
 )
-    requires { ⌜ Fills h (arrays (now tops) (now ends) (now blocks) (now adjustments)) (sizesOf buckets bins) (now olds) (now dues) ⌝ }
-    requires { ⌜ start ≡ lengthTo (lent h (now tops) (now ends) (now blocks) (now adjustments)) (sizesOf buckets bins) ⌝ }
+    requires { ⌜ Fills h (arraysNow tops ends blocks adjustments) (sizes buckets bins) (now olds) (now dues) ⌝ }
+    requires { ⌜ start ≡ lengthTo (tableNow h tops ends blocks adjustments) (sizes buckets bins) ⌝ }
     requires { ⌜
-        Room (h .«interval_count» + length (piecesOf (lent h (now tops) (now ends) (now blocks) (now adjustments)) (sizesOf buckets bins) start 0 (length (newTops (lent h (now tops) (now ends) (now blocks) (now adjustments)) (sizesOf buckets bins)))))
+        Room (h .«interval_count» + length (piecesOf (tableNow h tops ends blocks adjustments) (sizes buckets bins) start 0 (length (newTops (tableNow h tops ends blocks adjustments) (sizes buckets bins)))))
         (now «new_ends») (now «new_blocks») (now «new_adjustments»)
         ⌝ }
     ensures { λ _.
         ⌜
         Stored (h .«interval_count»)
         (piecesOf
-        (lent h (now (tops .entry)) (now (ends .entry)) (now (blocks .entry)) (now (adjustments .entry)))
-        (sizesOf buckets bins)
+        (tableGiven h tops ends blocks adjustments)
+        (sizes buckets bins)
         start
         0
         (length
         (newTops
-        (lent h (now (tops .entry)) (now (ends .entry)) (now (blocks .entry)) (now (adjustments .entry)))
-        (sizesOf buckets bins))))
+        (tableGiven h tops ends blocks adjustments)
+        (sizes buckets bins))))
         (now («new_ends» .entry)) (now («new_blocks» .entry)) (now («new_adjustments» .entry))
         (now («new_ends» .exit)) (now («new_blocks» .exit)) (now («new_adjustments» .exit))
         ⌝ }
@@ -151,17 +150,17 @@ fn write_filled(
     new_blocks: &mut [u32],
     new_adjustments: &mut [u32],
 )
-    requires { ⌜ Fills h (arrays (now tops) (now ends) (now blocks) (now adjustments)) (sizesOf buckets bins) (now olds) (now dues) ⌝ }
+    requires { ⌜ Fills h (arraysNow tops ends blocks adjustments) (sizes buckets bins) (now olds) (now dues) ⌝ }
     requires { ⌜
-        Room (length (filled (lent h (now tops) (now ends) (now blocks) (now adjustments)) (sizesOf buckets bins)))
+        Room (length (filled (tableNow h tops ends blocks adjustments) (sizes buckets bins)))
         (now «new_ends») (now «new_blocks») (now «new_adjustments»)
         ⌝ }
     ensures { λ _.
         ⌜
         Stored 0
         (filled
-        (lent h (now (tops .entry)) (now (ends .entry)) (now (blocks .entry)) (now (adjustments .entry)))
-        (sizesOf buckets bins))
+        (tableGiven h tops ends blocks adjustments)
+        (sizes buckets bins))
         (now («new_ends» .entry)) (now («new_blocks» .entry)) (now («new_adjustments» .entry))
         (now («new_ends» .exit)) (now («new_blocks» .exit)) (now («new_adjustments» .exit))
         ⌝ }
@@ -215,16 +214,16 @@ fn write_tops(
     bins: u32,
     new_tops: &mut [u32],
 )
-    requires { ⌜ LentSound h (now tops) (now ends) (now blocks) (now adjustments) ⌝ }
-    requires { ⌜ first (growthTests (lent h (now tops) (now ends) (now blocks) (now adjustments)) (sizesOf buckets bins)) ≡ 0 ⌝ }
+    requires { ⌜ LentSound h tops ends blocks adjustments ⌝ }
+    requires { ⌜ first (growthTests (tableNow h tops ends blocks adjustments) (sizes buckets bins)) ≡ 0 ⌝ }
     requires { ⌜ maxBlocks ≤ length (now «new_tops») ⌝ }
     ensures { λ _.
         ⌜
         now («new_tops» .exit)
         ≡ over
         (newTops
-        (lent h (now (tops .entry)) (now (ends .entry)) (now (blocks .entry)) (now (adjustments .entry)))
-        (sizesOf buckets bins))
+        (tableGiven h tops ends blocks adjustments)
+        (sizes buckets bins))
         (now («new_tops» .entry))
         ⌝ }
 {
@@ -251,20 +250,20 @@ fn write_intervals(
     new_blocks: &mut [u32],
     new_adjustments: &mut [u32],
 )
-    requires { ⌜ LentSound h (now tops) (now ends) (now blocks) (now adjustments) ⌝ }
-    requires { ⌜ first (growthTests (lent h (now tops) (now ends) (now blocks) (now adjustments)) (sizesOf buckets bins)) ≡ 0 ⌝ }
-    requires { ⌜ DuesBefore (lent h (now tops) (now ends) (now blocks) (now adjustments)) (now olds) ⌝ }
-    requires { ⌜ DuesAfter (lent h (now tops) (now ends) (now blocks) (now adjustments)) (sizesOf buckets bins) (now dues) ⌝ }
+    requires { ⌜ LentSound h tops ends blocks adjustments ⌝ }
+    requires { ⌜ first (growthTests (tableNow h tops ends blocks adjustments) (sizes buckets bins)) ≡ 0 ⌝ }
+    requires { ⌜ DuesBefore (tableNow h tops ends blocks adjustments) (now olds) ⌝ }
+    requires { ⌜ DuesAfter (tableNow h tops ends blocks adjustments) (sizes buckets bins) (now dues) ⌝ }
     requires { ⌜
-        Room (length (expanded (lent h (now tops) (now ends) (now blocks) (now adjustments)) (sizesOf buckets bins) .intervals))
+        Room (length (expanded (tableNow h tops ends blocks adjustments) (sizes buckets bins) .intervals))
         (now «new_ends») (now «new_blocks») (now «new_adjustments»)
         ⌝ }
     ensures { λ _.
         ⌜
         Stored 0
         (expanded
-        (lent h (now (tops .entry)) (now (ends .entry)) (now (blocks .entry)) (now (adjustments .entry)))
-        (sizesOf buckets bins)
+        (tableGiven h tops ends blocks adjustments)
+        (sizes buckets bins)
         .intervals)
         (now («new_ends» .entry)) (now («new_blocks» .entry)) (now («new_adjustments» .entry))
         (now («new_ends» .exit)) (now («new_blocks» .exit)) (now («new_adjustments» .exit))
@@ -328,24 +327,20 @@ pub fn write_expanded(
     new_blocks: &mut [u32],
     new_adjustments: &mut [u32],
 )
-    requires { ⌜ LentSound h (now tops) (now ends) (now blocks) (now adjustments) ⌝ }
-    requires { ⌜ first (growthTests (lent h (now tops) (now ends) (now blocks) (now adjustments)) (sizesOf buckets bins)) ≡ 0 ⌝ }
-    requires { ⌜ DuesBefore (lent h (now tops) (now ends) (now blocks) (now adjustments)) (now olds) ⌝ }
-    requires { ⌜ DuesAfter (lent h (now tops) (now ends) (now blocks) (now adjustments)) (sizesOf buckets bins) (now dues) ⌝ }
-    requires { ⌜ roomShort (arrays (now «new_tops») (now «new_ends») (now «new_blocks») (now «new_adjustments»)) ≡ false ⌝ }
-    requires { ⌜ length (expanded (lent h (now tops) (now ends) (now blocks) (now adjustments)) (sizesOf buckets bins) .intervals) ≤ maxIntervals ⌝ }
+    requires { ⌜ LentSound h tops ends blocks adjustments ⌝ }
+    requires { ⌜ first (growthTests (tableNow h tops ends blocks adjustments) (sizes buckets bins)) ≡ 0 ⌝ }
+    requires { ⌜ DuesBefore (tableNow h tops ends blocks adjustments) (now olds) ⌝ }
+    requires { ⌜ DuesAfter (tableNow h tops ends blocks adjustments) (sizes buckets bins) (now dues) ⌝ }
+    requires { ⌜ roomShort (arraysNow «new_tops» «new_ends» «new_blocks» «new_adjustments») ≡ false ⌝ }
+    requires { ⌜ length (expanded (tableNow h tops ends blocks adjustments) (sizes buckets bins) .intervals) ≤ maxIntervals ⌝ }
     ensures { λ _.
         ⌜
-        arrays (now («new_tops» .exit)) (now («new_ends» .exit)) (now («new_blocks» .exit)) (now («new_adjustments» .exit))
+        left «new_tops» «new_ends» «new_blocks» «new_adjustments»
         ≡ written
         (expanded
-        (lent h (now (tops .entry)) (now (ends .entry)) (now (blocks .entry)) (now (adjustments .entry)))
-        (sizesOf buckets bins))
-        (arrays
-        (now («new_tops» .entry))
-        (now («new_ends» .entry))
-        (now («new_blocks» .entry))
-        (now («new_adjustments» .entry)))
+        (tableGiven h tops ends blocks adjustments)
+        (sizes buckets bins))
+        (given «new_tops» «new_ends» «new_blocks» «new_adjustments»)
         ⌝ }
 {
     write_tops(h, tops, ends, blocks, adjustments, buckets, bins, new_tops);

@@ -9,8 +9,9 @@ ghost use mathlib.Core.Path.{_≡_};
 ghost use mathlib.Core.Bool.{false};
 ghost use Prim.Native.Nat.{ℕ, _+_, _*_, _≤_, _<_};
 ghost use lib.ListN.{length, getD};
+ghost use Rattle.model.specs.Lent.{given, left, arraysNow};
 ghost use Rattle.model.specs.Basics.{from};
-ghost use Rattle.model.specs.Table.{arrays, table, over, written};
+ghost use Rattle.model.specs.Table.{table, over, written};
 ghost use Rattle.model.specs.Place.{held};
 ghost use Rattle.model.specs.Refusal.{rises, topsWrong, endsWrong, blocksWrong, holdingsWrong, adjustmentOf, roomShort, first};
 ghost use Rattle.model.specs.Saved.{number, loadedHeader, loadedArrays, fileWrong};
@@ -204,10 +205,10 @@ pub fn write_loaded(
     adjustments: &mut [u32],
 )
     requires { ⌜ (first (loadTests (now f)) ≡ 0)
-        × (roomShort (arrays (now tops) (now ends) (now blocks) (now adjustments)) ≡ false) ⌝ }
-    ensures { λ _. ⌜ arrays (now (tops .exit)) (now (ends .exit)) (now (blocks .exit)) (now (adjustments .exit))
+        × (roomShort (arraysNow tops ends blocks adjustments) ≡ false) ⌝ }
+    ensures { λ _. ⌜ left tops ends blocks adjustments
         ≡ written (table (loadedHeader (now (f .entry))) (loadedArrays (now (f .entry))))
-        (arrays (now (tops .entry)) (now (ends .entry)) (now (blocks .entry)) (now (adjustments .entry))) ⌝ }
+        (given tops ends blocks adjustments) ⌝ }
 {
     let h = header_of(f);
     let block_count = h.block_count as usize;

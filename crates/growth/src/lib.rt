@@ -1,10 +1,9 @@
 // A growth and its move list, of a table that is known to be sound.
 ghost use mathlib.Core.Bool.{false};
 ghost use mathlib.Core.Path.{_≡_};
-ghost use Rattle.model.specs.Table.{arrays};
+ghost use Rattle.model.specs.Lent.{LentSound, given, left, arraysNow, tableGiven};
+ghost use Rattle.model.specs.Table.{sizes};
 ghost use Rattle.model.specs.Refusal.{roomShort};
-ghost use Rattle.model.specs.Lent.{lent, LentSound};
-ghost use Rattle.model.specs.Console.{sizes as sizesOf};
 ghost use Rattle.growth.specs.Replies.{GrowReply, MovesReply};
 use model::reply::RelocationsReply;
 use model::reply::TableReply;
@@ -25,14 +24,14 @@ pub fn grown(
     new_blocks: &mut [u32],
     new_adjustments: &mut [u32],
 ) -> TableReply
-    requires { ⌜ LentSound header (now tops) (now ends) (now blocks) (now adjustments) ⌝ }
-    requires { ⌜ roomShort (arrays (now «new_tops») (now «new_ends») (now «new_blocks») (now «new_adjustments»)) ≡ false ⌝ }
+    requires { ⌜ LentSound header tops ends blocks adjustments ⌝ }
+    requires { ⌜ roomShort (arraysNow «new_tops» «new_ends» «new_blocks» «new_adjustments») ≡ false ⌝ }
     ensures { λ r.
         ⌜
-        GrowReply (lent header (now (tops .entry)) (now (ends .entry)) (now (blocks .entry)) (now (adjustments .entry)))
-        (sizesOf buckets bins)
-        (arrays (now («new_tops» .entry)) (now («new_ends» .entry)) (now («new_blocks» .entry)) (now («new_adjustments» .entry)))
-        (arrays (now («new_tops» .exit)) (now («new_ends» .exit)) (now («new_blocks» .exit)) (now («new_adjustments» .exit)))
+        GrowReply (tableGiven header tops ends blocks adjustments)
+        (sizes buckets bins)
+        (given «new_tops» «new_ends» «new_blocks» «new_adjustments»)
+        (left «new_tops» «new_ends» «new_blocks» «new_adjustments»)
         r
         ⌝ }
 {
@@ -106,11 +105,11 @@ pub fn relocated(
     first: u32,
     rows: &mut [u32],
 ) -> RelocationsReply
-    requires { ⌜ LentSound header (now tops) (now ends) (now blocks) (now adjustments) ⌝ }
+    requires { ⌜ LentSound header tops ends blocks adjustments ⌝ }
     ensures { λ r.
         ⌜
-        MovesReply (lent header (now (tops .entry)) (now (ends .entry)) (now (blocks .entry)) (now (adjustments .entry)))
-        (sizesOf buckets bins) first (now (rows .entry)) (now (rows .exit)) r
+        MovesReply (tableGiven header tops ends blocks adjustments)
+        (sizes buckets bins) first (now (rows .entry)) (now (rows .exit)) r
         ⌝ }
 {
     let wrong = plan::growth_refusal(header, tops, ends, blocks, adjustments, buckets, bins);

@@ -1,7 +1,8 @@
 // The public calls of the placement map. Each takes any numbers and any arrays, and answers the full result or one refusal
 // number of document 01. A lent table is a header and four arrays: tops, ends, blocks, adjustments.
 ghost use mathlib.Core.Path.{_≡_};
-ghost use Rattle.model.specs.Table.{arrays};
+ghost use Rattle.model.specs.Lent.{given, left};
+ghost use Rattle.model.specs.Table.{sizes};
 ghost use Rattle.model.specs.Calls.{
   initialReply,
   initialArrays,
@@ -18,7 +19,6 @@ ghost use Rattle.model.specs.Calls.{
   loadReply,
   loadArrays,
 };
-ghost use Rattle.model.specs.Console.{sizes as sizesOf};
 use model::reply::BinSizeReply;
 use model::reply::FindReply;
 use model::reply::LoadReply;
@@ -38,12 +38,12 @@ pub fn initial(
     blocks: &mut [u32],
     adjustments: &mut [u32],
 ) -> TableReply
-    ensures { λ r. ⌜ r ≡ initialReply (sizesOf buckets bins) (arrays (now (tops .entry)) (now (ends .entry)) (now (blocks .entry)) (now (adjustments .entry))) ⌝ }
+    ensures { λ r. ⌜ r ≡ initialReply (sizes buckets bins) (given tops ends blocks adjustments) ⌝ }
     ensures { λ _.
         ⌜
-        arrays (now (tops .exit)) (now (ends .exit)) (now (blocks .exit)) (now (adjustments .exit))
-        ≡ initialArrays (sizesOf buckets bins)
-        (arrays (now (tops .entry)) (now (ends .entry)) (now (blocks .entry)) (now (adjustments .entry)))
+        left tops ends blocks adjustments
+        ≡ initialArrays (sizes buckets bins)
+        (given tops ends blocks adjustments)
         ⌝ }
 {
     if sizes::room_short(tops, ends, blocks, adjustments) {
@@ -82,16 +82,16 @@ pub fn expand(
     ensures { λ r.
         ⌜
         r
-        ≡ expandReply header (arrays (now (tops .entry)) (now (ends .entry)) (now (blocks .entry)) (now (adjustments .entry)))
-        (sizesOf buckets bins)
-        (arrays (now («new_tops» .entry)) (now («new_ends» .entry)) (now («new_blocks» .entry)) (now («new_adjustments» .entry)))
+        ≡ expandReply header (given tops ends blocks adjustments)
+        (sizes buckets bins)
+        (given «new_tops» «new_ends» «new_blocks» «new_adjustments»)
         ⌝ }
     ensures { λ _.
         ⌜
-        arrays (now («new_tops» .exit)) (now («new_ends» .exit)) (now («new_blocks» .exit)) (now («new_adjustments» .exit))
-        ≡ expandArrays header (arrays (now (tops .entry)) (now (ends .entry)) (now (blocks .entry)) (now (adjustments .entry)))
-        (sizesOf buckets bins)
-        (arrays (now («new_tops» .entry)) (now («new_ends» .entry)) (now («new_blocks» .entry)) (now («new_adjustments» .entry)))
+        left «new_tops» «new_ends» «new_blocks» «new_adjustments»
+        ≡ expandArrays header (given tops ends blocks adjustments)
+        (sizes buckets bins)
+        (given «new_tops» «new_ends» «new_blocks» «new_adjustments»)
         ⌝ }
 {
     if sizes::room_short(new_tops, new_ends, new_blocks, new_adjustments) {
@@ -131,14 +131,14 @@ pub fn relocations(
     ensures { λ r.
         ⌜
         r
-        ≡ relocationsReply header (arrays (now (tops .entry)) (now (ends .entry)) (now (blocks .entry)) (now (adjustments .entry)))
-        (sizesOf buckets bins) first (now (rows .entry))
+        ≡ relocationsReply header (given tops ends blocks adjustments)
+        (sizes buckets bins) first (now (rows .entry))
         ⌝ }
     ensures { λ _.
         ⌜
         now (rows .exit)
-        ≡ relocationsRows header (arrays (now (tops .entry)) (now (ends .entry)) (now (blocks .entry)) (now (adjustments .entry)))
-        (sizesOf buckets bins) first (now (rows .entry))
+        ≡ relocationsRows header (given tops ends blocks adjustments)
+        (sizes buckets bins) first (now (rows .entry))
         ⌝ }
 {
     let refusal = soundness::check(header, tops, ends, blocks, adjustments);
@@ -171,7 +171,7 @@ pub fn place(
     adjustments: &[u32],
     bucket: u32,
 ) -> PlaceReply
-    ensures { λ r. ⌜ r ≡ placeReply header (arrays (now (tops .entry)) (now (ends .entry)) (now (blocks .entry)) (now (adjustments .entry))) bucket ⌝ }
+    ensures { λ r. ⌜ r ≡ placeReply header (given tops ends blocks adjustments) bucket ⌝ }
 {
     let refusal = soundness::check(header, tops, ends, blocks, adjustments);
     if refusal != 0 {
@@ -194,7 +194,7 @@ pub fn find(
     bin: u32,
     position: u32,
 ) -> FindReply
-    ensures { λ r. ⌜ r ≡ findReply header (arrays (now (tops .entry)) (now (ends .entry)) (now (blocks .entry)) (now (adjustments .entry))) bin position ⌝ }
+    ensures { λ r. ⌜ r ≡ findReply header (given tops ends blocks adjustments) bin position ⌝ }
 {
     let refusal = soundness::check(header, tops, ends, blocks, adjustments);
     if refusal != 0 {
@@ -212,7 +212,7 @@ pub fn bin_size(
     adjustments: &[u32],
     bin: u32,
 ) -> BinSizeReply
-    ensures { λ r. ⌜ r ≡ binSizeReply header (arrays (now (tops .entry)) (now (ends .entry)) (now (blocks .entry)) (now (adjustments .entry))) bin ⌝ }
+    ensures { λ r. ⌜ r ≡ binSizeReply header (given tops ends blocks adjustments) bin ⌝ }
 {
     let refusal = soundness::check(header, tops, ends, blocks, adjustments);
     if refusal != 0 {
@@ -243,13 +243,13 @@ pub fn save(
     ensures { λ r.
         ⌜
         r
-        ≡ saveReply header (arrays (now (tops .entry)) (now (ends .entry)) (now (blocks .entry)) (now (adjustments .entry)))
+        ≡ saveReply header (given tops ends blocks adjustments)
         (now (buffer .entry))
         ⌝ }
     ensures { λ _.
         ⌜
         now (buffer .exit)
-        ≡ saveBytes header (arrays (now (tops .entry)) (now (ends .entry)) (now (blocks .entry)) (now (adjustments .entry)))
+        ≡ saveBytes header (given tops ends blocks adjustments)
         (now (buffer .entry))
         ⌝ }
 {
@@ -280,13 +280,13 @@ pub fn load(
         ⌜
         r
         ≡ loadReply (now (bytes .entry))
-        (arrays (now (tops .entry)) (now (ends .entry)) (now (blocks .entry)) (now (adjustments .entry)))
+        (given tops ends blocks adjustments)
         ⌝ }
     ensures { λ _.
         ⌜
-        arrays (now (tops .exit)) (now (ends .exit)) (now (blocks .exit)) (now (adjustments .exit))
+        left tops ends blocks adjustments
         ≡ loadArrays (now (bytes .entry))
-        (arrays (now (tops .entry)) (now (ends .entry)) (now (blocks .entry)) (now (adjustments .entry)))
+        (given tops ends blocks adjustments)
         ⌝ }
 {
     if sizes::room_short(tops, ends, blocks, adjustments) {

@@ -3,11 +3,11 @@ ghost use Prim.Native.Nat.{_<_, _≤_};
 ghost use mathlib.Core.Logic.{_⊎_};
 ghost use mathlib.Core.Path.{_≡_};
 ghost use lib.ListN.{length, take};
+ghost use Rattle.model.specs.Lent.{LentSound, tableGiven, tableNow};
 ghost use Rattle.model.specs.Table.{bins as binsOf};
 ghost use Rattle.model.specs.Place.{located, locatedRefusal, blockOfBin, binSize, holder, holderRefusal, heldAt};
 ghost use Rattle.model.specs.Refusal.{first};
 ghost use Rattle.model.specs.Calls.{placeAnswer, findAnswer, findTests, binSizeAnswer, binSizeTests};
-ghost use Rattle.model.specs.Lent.{lent, LentSound};
 ghost use Rattle.lookup.specs.Search.{Among};
 use model::reply::BinSizeReply;
 use model::reply::FindReply;
@@ -41,7 +41,7 @@ fn narrow(
     adjustments: &[u32],
     bucket: u32,
 ) -> Span
-    requires { ⌜ LentSound h (now tops) (now ends) (now blocks) (now adjustments) ⌝ }
+    requires { ⌜ LentSound h tops ends blocks adjustments ⌝ }
     requires { ⌜ bucket < h .buckets ⌝ }
     ensures { λ r. ⌜ (r .count ≤ 3) × Among (now (ends .entry)) (h .«interval_count») bucket (r .low) (r .count) ⌝ }
 {
@@ -67,8 +67,8 @@ fn locate(
     adjustments: &[u32],
     bucket: u32,
 ) -> Located
-    requires { ⌜ LentSound h (now tops) (now ends) (now blocks) (now adjustments) ⌝ }
-    ensures { λ r. ⌜ r ≡ located (lent h (now (tops .entry)) (now (ends .entry)) (now (blocks .entry)) (now (adjustments .entry))) bucket ⌝ }
+    requires { ⌜ LentSound h tops ends blocks adjustments ⌝ }
+    ensures { λ r. ⌜ r ≡ located (tableGiven h tops ends blocks adjustments) bucket ⌝ }
 {
     if h.buckets <= bucket {
         return Located::Outside;
@@ -95,13 +95,13 @@ pub fn placed(
     adjustments: &[u32],
     bucket: u32,
 ) -> PlaceReply
-    requires { ⌜ LentSound h (now tops) (now ends) (now blocks) (now adjustments) ⌝ }
+    requires { ⌜ LentSound h tops ends blocks adjustments ⌝ }
     ensures { λ r.
         ⌜
         r
         ≡ placeAnswer
-        (locatedRefusal (located (lent h (now (tops .entry)) (now (ends .entry)) (now (blocks .entry)) (now (adjustments .entry))) bucket))
-        (lent h (now (tops .entry)) (now (ends .entry)) (now (blocks .entry)) (now (adjustments .entry)))
+        (locatedRefusal (located (tableGiven h tops ends blocks adjustments) bucket))
+        (tableGiven h tops ends blocks adjustments)
         bucket
         ⌝ }
 {
@@ -131,13 +131,13 @@ pub fn sized(
     adjustments: &[u32],
     bin: u32,
 ) -> BinSizeReply
-    requires { ⌜ LentSound h (now tops) (now ends) (now blocks) (now adjustments) ⌝ }
+    requires { ⌜ LentSound h tops ends blocks adjustments ⌝ }
     ensures { λ r.
         ⌜
         r
         ≡ binSizeAnswer
-        (first (binSizeTests (lent h (now (tops .entry)) (now (ends .entry)) (now (blocks .entry)) (now (adjustments .entry))) bin))
-        (lent h (now (tops .entry)) (now (ends .entry)) (now (blocks .entry)) (now (adjustments .entry)))
+        (first (binSizeTests (tableGiven h tops ends blocks adjustments) bin))
+        (tableGiven h tops ends blocks adjustments)
         bin
         ⌝ }
 {
@@ -186,12 +186,12 @@ fn hold(
     block: u32,
     rank: u32,
 ) -> Holder
-    requires { ⌜ LentSound h (now tops) (now ends) (now blocks) (now adjustments) ⌝ }
+    requires { ⌜ LentSound h tops ends blocks adjustments ⌝ }
     requires { ⌜ rank < h .buckets ⌝ }
     ensures { λ r.
         ⌜
         r
-        ≡ holder (lent h (now (tops .entry)) (now (ends .entry)) (now (blocks .entry)) (now (adjustments .entry)) .intervals)
+        ≡ holder (tableGiven h tops ends blocks adjustments .intervals)
         0 0 block rank
         ⌝ }
 {
@@ -227,16 +227,16 @@ fn bucket_at(
     bin: u32,
     position: u32,
 ) -> FindReply
-    requires { ⌜ LentSound h (now tops) (now ends) (now blocks) (now adjustments) ⌝ }
-    requires { ⌜ bin < binsOf (lent h (now tops) (now ends) (now blocks) (now adjustments)) ⌝ }
-    requires { ⌜ position < binSize (lent h (now tops) (now ends) (now blocks) (now adjustments)) bin ⌝ }
+    requires { ⌜ LentSound h tops ends blocks adjustments ⌝ }
+    requires { ⌜ bin < binsOf (tableNow h tops ends blocks adjustments) ⌝ }
+    requires { ⌜ position < binSize (tableNow h tops ends blocks adjustments) bin ⌝ }
     ensures { λ r.
         ⌜
         r
         ≡ findAnswer
         (holderRefusal
-        (heldAt (lent h (now (tops .entry)) (now (ends .entry)) (now (blocks .entry)) (now (adjustments .entry))) bin position))
-        (lent h (now (tops .entry)) (now (ends .entry)) (now (blocks .entry)) (now (adjustments .entry)))
+        (heldAt (tableGiven h tops ends blocks adjustments) bin position))
+        (tableGiven h tops ends blocks adjustments)
         bin position
         ⌝ }
 {
@@ -265,13 +265,13 @@ pub fn found(
     bin: u32,
     position: u32,
 ) -> FindReply
-    requires { ⌜ LentSound h (now tops) (now ends) (now blocks) (now adjustments) ⌝ }
+    requires { ⌜ LentSound h tops ends blocks adjustments ⌝ }
     ensures { λ r.
         ⌜
         r
         ≡ findAnswer
-        (first (findTests (lent h (now (tops .entry)) (now (ends .entry)) (now (blocks .entry)) (now (adjustments .entry))) bin position))
-        (lent h (now (tops .entry)) (now (ends .entry)) (now (blocks .entry)) (now (adjustments .entry)))
+        (first (findTests (tableGiven h tops ends blocks adjustments) bin position))
+        (tableGiven h tops ends blocks adjustments)
         bin position
         ⌝ }
 {

@@ -7,7 +7,7 @@ use mathlib.Core.List.{List, [], _∷_, _++_, map}
 use lib.ListN.{length}
 use lib.Dec.{leb, ltb, eqb}
 use Rattle.model.specs.Basics.{if_then_else_, _and_, joined}
-use Rattle.model.specs.Table.{Shape, Table}
+use Rattle.model.specs.Table.{Table, sizes}
 use Rattle.model.specs.Place.{bin, position, bucketAt}
 use Rattle.model.specs.Refusal.{Test, first}
 use Rattle.model.specs.Initial.{initial}
@@ -126,9 +126,6 @@ isUnreadable (Where x) = false
 isUnreadable (At y p) = false
 isUnreadable Moves = false
 isUnreadable Unreadable = true
-
-abbrev pub sizes : ℕ → ℕ → Shape
-sizes b n = record { buckets = b; bins = n }
 
 -- the tests of a command on the table t
 unfoldable pub commandTests : Table → Command → List Test

@@ -4,7 +4,7 @@ use Prim.Native.Nat.{ℕ}
 use mathlib.Core.List.{List, [], _∷_, map}
 use lib.ListN.{take, replicate}
 use Rattle.model.specs.Limits.{maxBlocks, maxIntervals}
-use Rattle.model.specs.Table.{Shape, Arrays, arrays}
+use Rattle.model.specs.Table.{Shape, sizes, Arrays, arrays}
 use Rattle.model.specs.Calls.{initialReply, initialArrays, expandReply, expandArrays, placeReply}
 use Rattle.model.specs.declared.reply.TableReply.{TableReply}
 
@@ -61,36 +61,33 @@ pub record Figure : Type 0 where
 unfoldable pub computed : Figure → List Answer
 computed f = map (answered (grows (started (f .fresh)) (f .growths))) (f .stated)
 
-abbrev pub size : ℕ → ℕ → Shape
-size b n = record { buckets = b; bins = n }
-
 abbrev pub figure : Shape → List Shape → List Answer → Figure
 figure s ss a = record { fresh = s; growths = ss; stated = a }
 
 unfoldable pub starred : List Figure
 starred =
-    figure (size 10 2) [] (place 7 1 3 ∷ [])
-    ∷ figure (size 10 2) (size 10 3 ∷ [])
+    figure (sizes 10 2) [] (place 7 1 3 ∷ [])
+    ∷ figure (sizes 10 2) (sizes 10 3 ∷ [])
     (ends (7 ∷ 10 ∷ []) ∷ blocks (0 ∷ 1 ∷ []) ∷ adjustments (0 ∷ 7 ∷ []) ∷ reply 0 3 2 ∷ [])
-    ∷ figure (size 10 2) (size 10 3 ∷ size 14 4 ∷ [])
+    ∷ figure (sizes 10 2) (sizes 10 3 ∷ sizes 14 4 ∷ [])
     (ends (7 ∷ 10 ∷ 11 ∷ 14 ∷ [])
     ∷ blocks (0 ∷ 1 ∷ 0 ∷ 2 ∷ [])
     ∷ adjustments (0 ∷ 7 ∷ 3 ∷ 11 ∷ [])
     ∷ reply 0 0 4
     ∷ [])
-    ∷ figure (size 10 2) (size 10 3 ∷ size 14 4 ∷ size 14 5 ∷ [])
+    ∷ figure (sizes 10 2) (sizes 10 3 ∷ sizes 14 4 ∷ sizes 14 5 ∷ [])
     (ends (6 ∷ 7 ∷ 10 ∷ 11 ∷ 14 ∷ [])
     ∷ blocks (0 ∷ 3 ∷ 1 ∷ 3 ∷ 2 ∷ [])
     ∷ adjustments (0 ∷ 6 ∷ 7 ∷ 9 ∷ 11 ∷ [])
     ∷ reply 0 2 5
     ∷ [])
-    ∷ figure (size 10 2) (size 10 3 ∷ size 14 4 ∷ size 14 5 ∷ size 16 5 ∷ [])
+    ∷ figure (sizes 10 2) (sizes 10 3 ∷ sizes 14 4 ∷ sizes 14 5 ∷ sizes 16 5 ∷ [])
     (ends (6 ∷ 7 ∷ 10 ∷ 11 ∷ 14 ∷ 15 ∷ 16 ∷ [])
     ∷ blocks (0 ∷ 3 ∷ 1 ∷ 3 ∷ 2 ∷ 0 ∷ 3 ∷ [])
     ∷ adjustments (0 ∷ 6 ∷ 7 ∷ 9 ∷ 11 ∷ 8 ∷ 13 ∷ [])
     ∷ [])
-    ∷ figure (size 4 2) (size 6 2 ∷ []) (ends (6 ∷ []) ∷ [])
-    ∷ figure (size 4 2) (size 5 4 ∷ []) (ends (3 ∷ 5 ∷ []) ∷ adjustments (0 ∷ 3 ∷ []) ∷ reply 0 1 2 ∷ [])
-    ∷ figure (size 1 1) [] (reply 0 0 1 ∷ [])
-    ∷ figure (size 1 2) [] (reply 2 0 0 ∷ [])
+    ∷ figure (sizes 4 2) (sizes 6 2 ∷ []) (ends (6 ∷ []) ∷ [])
+    ∷ figure (sizes 4 2) (sizes 5 4 ∷ []) (ends (3 ∷ 5 ∷ []) ∷ adjustments (0 ∷ 3 ∷ []) ∷ reply 0 1 2 ∷ [])
+    ∷ figure (sizes 1 1) [] (reply 0 0 1 ∷ [])
+    ∷ figure (sizes 1 2) [] (reply 2 0 0 ∷ [])
     ∷ []

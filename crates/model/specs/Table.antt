@@ -10,6 +10,9 @@ pub record Shape : Type 0 where
   pub buckets : ℕ
   pub bins : ℕ
 
+abbrev pub sizes : ℕ → ℕ → Shape
+sizes b n = record { buckets = b; bins = n }
+
 -- an interval (run): its end, the first bucket past it; its block (group); its rank adjustment.
 -- It starts at the end of the interval before it, the first one at bucket 0.
 pub record Interval : Type 0 where

@@ -2,15 +2,14 @@
 ghost use Prim.Native.Nat.{ℕ, _<_, _≤_};
 ghost use mathlib.Core.Path.{_≡_};
 ghost use lib.ListN.{length, getD, take, replicate};
+ghost use Rattle.model.specs.Lent.{LentSound, tableGiven, tableNow};
 ghost use Rattle.model.specs.Basics.{before as entryBefore};
 ghost use Rattle.model.specs.Limits.{maxBlocks};
-ghost use Rattle.model.specs.Table.{interval};
+ghost use Rattle.model.specs.Table.{interval, sizes};
 ghost use Rattle.model.specs.Due.{dueOfBlock};
 ghost use Rattle.model.specs.Refusal.{first};
 ghost use Rattle.model.specs.Expansion.{newTops, someFall, plan, planFor};
 ghost use Rattle.model.specs.Calls.{growthTests};
-ghost use Rattle.model.specs.Console.{sizes as sizesOf};
-ghost use Rattle.model.specs.Lent.{lent, LentSound};
 ghost use Rattle.plan.specs.Shares.{TopsWithin, DuesBefore, DuesAfter};
 use model::plan::Action;
 use model::plan::Plan;
@@ -29,14 +28,14 @@ pub fn growth_refusal(
     buckets: u32,
     bins: u32,
 ) -> u32
-    requires { ⌜ LentSound h (now tops) (now ends) (now blocks) (now adjustments) ⌝ }
+    requires { ⌜ LentSound h tops ends blocks adjustments ⌝ }
     ensures { λ r.
         ⌜
         r
         ≡ first
         (growthTests
-        (lent h (now (tops .entry)) (now (ends .entry)) (now (blocks .entry)) (now (adjustments .entry)))
-        (sizesOf buckets bins))
+        (tableGiven h tops ends blocks adjustments)
+        (sizes buckets bins))
         ⌝ }
 {
     let refusal = size_refusal(buckets, bins);
@@ -72,14 +71,14 @@ pub fn blocks_after(
     buckets: u32,
     bins: u32,
 ) -> u32
-    requires { ⌜ LentSound h (now tops) (now ends) (now blocks) (now adjustments) ⌝ }
+    requires { ⌜ LentSound h tops ends blocks adjustments ⌝ }
     ensures { λ r.
         ⌜
         r
         ≡ length
         (newTops
-        (lent h (now (tops .entry)) (now (ends .entry)) (now (blocks .entry)) (now (adjustments .entry)))
-        (sizesOf buckets bins))
+        (tableGiven h tops ends blocks adjustments)
+        (sizes buckets bins))
         ⌝ }
 {
     let old = bin_count(h, tops, ends, blocks, adjustments);
@@ -95,7 +94,7 @@ fn block_dues(tops: &[u32], count: usize, buckets: u32, bins: u32, dues: &mut [u
     requires { ⌜ now dues ≡ replicate maxBlocks 0 ⌝ }
     ensures cells { λ _. ⌜ length (now (dues .exit)) ≡ maxBlocks ⌝ }
     ensures due { λ _.
-        ⌜ ((j : ℕ) → j < 65 → getD (now (dues .exit)) j 0 ≡ dueOfBlock (sizesOf buckets bins) (take count (now (tops .entry))) j) ⌝ }
+        ⌜ ((j : ℕ) → j < 65 → getD (now (dues .exit)) j 0 ≡ dueOfBlock (sizes buckets bins) (take count (now (tops .entry))) j) ⌝ }
 {
     let quotient = buckets / bins;
     let remainder = buckets % bins;
@@ -118,12 +117,12 @@ pub fn dues_before(
     adjustments: &[u32],
     olds: &mut [u32; 65],
 )
-    requires { ⌜ LentSound h (now tops) (now ends) (now blocks) (now adjustments) ⌝ }
+    requires { ⌜ LentSound h tops ends blocks adjustments ⌝ }
     requires { ⌜ now olds ≡ replicate maxBlocks 0 ⌝ }
     ensures { λ _.
         ⌜
         DuesBefore
-        (lent h (now (tops .entry)) (now (ends .entry)) (now (blocks .entry)) (now (adjustments .entry)))
+        (tableGiven h tops ends blocks adjustments)
         (now (olds .exit))
         ⌝ }
 {
@@ -142,14 +141,14 @@ pub fn dues_after(
     bins: u32,
     dues: &mut [u32; 65],
 )
-    requires { ⌜ LentSound h (now tops) (now ends) (now blocks) (now adjustments) ⌝ }
-    requires { ⌜ first (growthTests (lent h (now tops) (now ends) (now blocks) (now adjustments)) (sizesOf buckets bins)) ≡ 0 ⌝ }
+    requires { ⌜ LentSound h tops ends blocks adjustments ⌝ }
+    requires { ⌜ first (growthTests (tableNow h tops ends blocks adjustments) (sizes buckets bins)) ≡ 0 ⌝ }
     requires { ⌜ now dues ≡ replicate maxBlocks 0 ⌝ }
     ensures { λ _.
         ⌜
         DuesAfter
-        (lent h (now (tops .entry)) (now (ends .entry)) (now (blocks .entry)) (now (adjustments .entry)))
-        (sizesOf buckets bins)
+        (tableGiven h tops ends blocks adjustments)
+        (sizes buckets bins)
         (now (dues .exit))
         ⌝ }
 {
@@ -172,15 +171,15 @@ pub fn some_fall(
     olds: &[u32; 65],
     dues: &[u32; 65],
 ) -> bool
-    requires { ⌜ LentSound h (now tops) (now ends) (now blocks) (now adjustments) ⌝ }
-    requires { ⌜ DuesBefore (lent h (now tops) (now ends) (now blocks) (now adjustments)) (now olds) ⌝ }
-    requires { ⌜ DuesAfter (lent h (now tops) (now ends) (now blocks) (now adjustments)) (sizesOf buckets bins) (now dues) ⌝ }
+    requires { ⌜ LentSound h tops ends blocks adjustments ⌝ }
+    requires { ⌜ DuesBefore (tableNow h tops ends blocks adjustments) (now olds) ⌝ }
+    requires { ⌜ DuesAfter (tableNow h tops ends blocks adjustments) (sizes buckets bins) (now dues) ⌝ }
     ensures { λ r.
         ⌜
         r
         ≡ someFall
-        (lent h (now (tops .entry)) (now (ends .entry)) (now (blocks .entry)) (now (adjustments .entry)))
-        (sizesOf buckets bins)
+        (tableGiven h tops ends blocks adjustments)
+        (sizes buckets bins)
         ⌝ }
 {
     let mut j: usize = 0;
@@ -237,15 +236,15 @@ pub fn plan_at(
     start: u32,
     moved: u32,
 ) -> Plan
-    requires { ⌜ LentSound h (now tops) (now ends) (now blocks) (now adjustments) ⌝ }
-    requires { ⌜ DuesAfter (lent h (now tops) (now ends) (now blocks) (now adjustments)) (sizesOf buckets bins) (now dues) ⌝ }
+    requires { ⌜ LentSound h tops ends blocks adjustments ⌝ }
+    requires { ⌜ DuesAfter (tableNow h tops ends blocks adjustments) (sizes buckets bins) (now dues) ⌝ }
     requires { ⌜ (i < h .«interval_count») × (start ≡ entryBefore (now ends) i) × (moved ≤ start) ⌝ }
     ensures { λ r.
         ⌜
         r
         ≡ planFor
-        (lent h (now (tops .entry)) (now (ends .entry)) (now (blocks .entry)) (now (adjustments .entry)))
-        (sizesOf buckets bins)
+        (tableGiven h tops ends blocks adjustments)
+        (sizes buckets bins)
         start
         (interval (getD (now (ends .entry)) i 0) (getD (now (blocks .entry)) i 0) (getD (now (adjustments .entry)) i 0))
         moved

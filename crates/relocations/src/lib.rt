@@ -5,14 +5,13 @@ ghost use mathlib.Core.List.{[], _∷_};
 ghost use mathlib.Core.Bool.{true};
 ghost use lib.ListN.{length, getD};
 ghost use lib.Seq.{sets};
+ghost use Rattle.model.specs.Lent.{LentSound, tableGiven, tableNow};
 ghost use Rattle.model.specs.Basics.{from, joined, before as entryBefore};
-ghost use Rattle.model.specs.Table.{over};
+ghost use Rattle.model.specs.Table.{over, sizes};
 ghost use Rattle.model.specs.Refusal.{first as firstOf};
 ghost use Rattle.model.specs.Expansion.{expanded, someFall};
 ghost use Rattle.model.specs.Relocations.{rows as rowsOf, page};
 ghost use Rattle.model.specs.Calls.{growthTests};
-ghost use Rattle.model.specs.Console.{sizes as sizesOf};
-ghost use Rattle.model.specs.Lent.{lent, LentSound};
 ghost use Rattle.plan.specs.Shares.{DuesAfter};
 ghost use Rattle.relocations.specs.Spans.{placing, placedRow, withRows, partRows, paged, Places, Slotted, Steps, Part, Acts};
 use model::plan::Action;
@@ -229,10 +228,10 @@ fn write_moved(
     first: u32,
     rows: &mut [u32],
 )
-    requires { ⌜ LentSound h (now tops) (now ends) (now blocks) (now adjustments) ⌝ }
-    requires { ⌜ firstOf (growthTests (lent h (now tops) (now ends) (now blocks) (now adjustments)) (sizesOf buckets bins)) ≡ 0 ⌝ }
-    requires { ⌜ someFall (lent h (now tops) (now ends) (now blocks) (now adjustments)) (sizesOf buckets bins) ≡ true ⌝ }
-    requires { ⌜ DuesAfter (lent h (now tops) (now ends) (now blocks) (now adjustments)) (sizesOf buckets bins) (now dues) ⌝ }
+    requires { ⌜ LentSound h tops ends blocks adjustments ⌝ }
+    requires { ⌜ firstOf (growthTests (tableNow h tops ends blocks adjustments) (sizes buckets bins)) ≡ 0 ⌝ }
+    requires { ⌜ someFall (tableNow h tops ends blocks adjustments) (sizes buckets bins) ≡ true ⌝ }
+    requires { ⌜ DuesAfter (tableNow h tops ends blocks adjustments) (sizes buckets bins) (now dues) ⌝ }
     ensures { λ _.
         ⌜
         now (rows .exit)
@@ -240,10 +239,10 @@ fn write_moved(
         (joined
         (page first (length (now (rows .entry)))
         (rowsOf
-        (lent h (now (tops .entry)) (now (ends .entry)) (now (blocks .entry)) (now (adjustments .entry)))
+        (tableGiven h tops ends blocks adjustments)
         (expanded
-        (lent h (now (tops .entry)) (now (ends .entry)) (now (blocks .entry)) (now (adjustments .entry)))
-        (sizesOf buckets bins)))))
+        (tableGiven h tops ends blocks adjustments)
+        (sizes buckets bins)))))
         (now (rows .entry))
         ⌝ }
 {
@@ -299,17 +298,17 @@ pub fn relocation_count(
     buckets: u32,
     bins: u32,
 ) -> u32
-    requires { ⌜ LentSound h (now tops) (now ends) (now blocks) (now adjustments) ⌝ }
-    requires { ⌜ firstOf (growthTests (lent h (now tops) (now ends) (now blocks) (now adjustments)) (sizesOf buckets bins)) ≡ 0 ⌝ }
+    requires { ⌜ LentSound h tops ends blocks adjustments ⌝ }
+    requires { ⌜ firstOf (growthTests (tableNow h tops ends blocks adjustments) (sizes buckets bins)) ≡ 0 ⌝ }
     ensures { λ r.
         ⌜
         r
         ≡ length
         (rowsOf
-        (lent h (now (tops .entry)) (now (ends .entry)) (now (blocks .entry)) (now (adjustments .entry)))
+        (tableGiven h tops ends blocks adjustments)
         (expanded
-        (lent h (now (tops .entry)) (now (ends .entry)) (now (blocks .entry)) (now (adjustments .entry)))
-        (sizesOf buckets bins)))
+        (tableGiven h tops ends blocks adjustments)
+        (sizes buckets bins)))
         ⌝ }
 {
     let old_bins = bin_count(h, tops, ends, blocks, adjustments);
@@ -331,16 +330,16 @@ pub fn write_relocations(
     first: u32,
     rows: &mut [u32],
 ) -> u32
-    requires { ⌜ LentSound h (now tops) (now ends) (now blocks) (now adjustments) ⌝ }
-    requires { ⌜ firstOf (growthTests (lent h (now tops) (now ends) (now blocks) (now adjustments)) (sizesOf buckets bins)) ≡ 0 ⌝ }
+    requires { ⌜ LentSound h tops ends blocks adjustments ⌝ }
+    requires { ⌜ firstOf (growthTests (tableNow h tops ends blocks adjustments) (sizes buckets bins)) ≡ 0 ⌝ }
     requires { ⌜
         first
         ≤ length
         (rowsOf
-        (lent h (now tops) (now ends) (now blocks) (now adjustments))
+        (tableNow h tops ends blocks adjustments)
         (expanded
-        (lent h (now tops) (now ends) (now blocks) (now adjustments))
-        (sizesOf buckets bins)))
+        (tableNow h tops ends blocks adjustments)
+        (sizes buckets bins)))
         ⌝ }
     ensures { λ r.
         ⌜
@@ -348,10 +347,10 @@ pub fn write_relocations(
         ≡ length
         (page first (length (now (rows .entry)))
         (rowsOf
-        (lent h (now (tops .entry)) (now (ends .entry)) (now (blocks .entry)) (now (adjustments .entry)))
+        (tableGiven h tops ends blocks adjustments)
         (expanded
-        (lent h (now (tops .entry)) (now (ends .entry)) (now (blocks .entry)) (now (adjustments .entry)))
-        (sizesOf buckets bins))))
+        (tableGiven h tops ends blocks adjustments)
+        (sizes buckets bins))))
         ⌝ }
     ensures { λ _.
         ⌜
@@ -360,10 +359,10 @@ pub fn write_relocations(
         (joined
         (page first (length (now (rows .entry)))
         (rowsOf
-        (lent h (now (tops .entry)) (now (ends .entry)) (now (blocks .entry)) (now (adjustments .entry)))
+        (tableGiven h tops ends blocks adjustments)
         (expanded
-        (lent h (now (tops .entry)) (now (ends .entry)) (now (blocks .entry)) (now (adjustments .entry)))
-        (sizesOf buckets bins)))))
+        (tableGiven h tops ends blocks adjustments)
+        (sizes buckets bins)))))
         (now (rows .entry))
         ⌝ }
 {

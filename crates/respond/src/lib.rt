@@ -7,7 +7,7 @@ ghost use mathlib.Core.Path.{_≡_};
 ghost use mathlib.Core.Bool.{true, false};
 ghost use Prim.Native.Nat.{_+_, _≤_};
 ghost use lib.ListN.{length, take};
-ghost use Rattle.model.specs.Table.{arrays};
+ghost use Rattle.model.specs.Lent.{given, left, arraysNow};
 ghost use Rattle.model.specs.Console.{read as readOf};
 ghost use Rattle.session.specs.Maps.{Right, next as after};
 ghost use Rattle.console.specs.Rack.{rack, held, answerTo};
@@ -45,8 +45,8 @@ fn pages(
         Right
         (held
         (rack state
-        (arrays (now tops) (now ends) (now blocks) (now adjustments))
-        (arrays (now «second_tops») (now «second_ends») (now «second_blocks») (now «second_adjustments»))))
+        (arraysNow tops ends blocks adjustments)
+        (arraysNow «second_tops» «second_ends» «second_blocks» «second_adjustments»)))
         ⌝ }
 {
     let mut first: u32 = 0;
@@ -96,8 +96,8 @@ fn settle(
         Right
         (held
         (rack (reply .state)
-        (arrays (now tops) (now ends) (now blocks) (now adjustments))
-        (arrays (now «second_tops») (now «second_ends») (now «second_blocks») (now «second_adjustments»))))
+        (arraysNow tops ends blocks adjustments)
+        (arraysNow «second_tops» «second_ends» «second_blocks» «second_adjustments»)))
         ⌝ }
     requires { ⌜ reply .at ≤ 491584 ⌝ }
     ensures turn { λ r. ⌜ (r .state ≡ reply .state) × (r .at + 64 ≤ 491584) ⌝ }
@@ -162,8 +162,8 @@ pub fn one(
         Right
         (held
         (rack state
-        (arrays (now tops) (now ends) (now blocks) (now adjustments))
-        (arrays (now «second_tops») (now «second_ends») (now «second_blocks») (now «second_adjustments»))))
+        (arraysNow tops ends blocks adjustments)
+        (arraysNow «second_tops» «second_ends» «second_blocks» «second_adjustments»)))
         ⌝ }
     requires { ⌜ (kept ≤ length (now line)) × (at + 64 ≤ 491584) ⌝ }
     ensures right { λ r.
@@ -171,21 +171,21 @@ pub fn one(
         Right
         (held
         (rack (r .state)
-        (arrays (now (tops .exit)) (now (ends .exit)) (now (blocks .exit)) (now (adjustments .exit)))
-        (arrays (now («second_tops» .exit)) (now («second_ends» .exit)) (now («second_blocks» .exit)) (now («second_adjustments» .exit)))))
+        (left tops ends blocks adjustments)
+        (left «second_tops» «second_ends» «second_blocks» «second_adjustments»)))
         ⌝ }
     ensures room { λ r. ⌜ r .at + 64 ≤ 491584 ⌝ }
     ensures done { λ r.
         ⌜
         held
         (rack (r .state)
-        (arrays (now (tops .exit)) (now (ends .exit)) (now (blocks .exit)) (now (adjustments .exit)))
-        (arrays (now («second_tops» .exit)) (now («second_ends» .exit)) (now («second_blocks» .exit)) (now («second_adjustments» .exit))))
+        (left tops ends blocks adjustments)
+        (left «second_tops» «second_ends» «second_blocks» «second_adjustments»))
         ≡ after
         (held
         (rack state
-        (arrays (now (tops .entry)) (now (ends .entry)) (now (blocks .entry)) (now (adjustments .entry)))
-        (arrays (now («second_tops» .entry)) (now («second_ends» .entry)) (now («second_blocks» .entry)) (now («second_adjustments» .entry)))))
+        (given tops ends blocks adjustments)
+        (given «second_tops» «second_ends» «second_blocks» «second_adjustments»)))
         (readOf (take kept (now (line .entry))))
         ⌝ }
     ensures printed { λ r.
@@ -193,8 +193,8 @@ pub fn one(
         Printed
         (answerTo
         (rack state
-        (arrays (now (tops .entry)) (now (ends .entry)) (now (blocks .entry)) (now (adjustments .entry)))
-        (arrays (now («second_tops» .entry)) (now («second_ends» .entry)) (now («second_blocks» .entry)) (now («second_adjustments» .entry))))
+        (given tops ends blocks adjustments)
+        (given «second_tops» «second_ends» «second_blocks» «second_adjustments»))
         (take kept (now (line .entry))))
         at (now (rows .entry)) (now (out .entry))
         (r .at) (now (rows .exit)) (now (out .exit))

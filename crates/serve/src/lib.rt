@@ -11,7 +11,7 @@ ghost use mathlib.Core.Path.{_≡_};
 ghost use mathlib.Core.Bool.{true, false};
 ghost use Prim.Native.Nat.{_+_, _≤_, _<_};
 ghost use lib.ListN.{length, take};
-ghost use Rattle.model.specs.Table.{arrays};
+ghost use Rattle.model.specs.Lent.{given, left, arraysNow};
 ghost use Rattle.model.specs.Refusal.{roomShort};
 ghost use Rattle.session.specs.Maps.{Right};
 ghost use Rattle.session.specs.declared.state.Stage.the-variants.{Empty};
@@ -58,8 +58,8 @@ fn pieced(
         Right
         (held
         (rack state
-        (arrays (now tops) (now ends) (now blocks) (now adjustments))
-        (arrays (now «second_tops») (now «second_ends») (now «second_blocks») (now «second_adjustments»))))
+        (arraysNow tops ends blocks adjustments)
+        (arraysNow «second_tops» «second_ends» «second_blocks» «second_adjustments»)))
         ⌝ }
     requires { ⌜ (from < length (now block)) × (kept ≤ 65) × (at + 64 ≤ 491584) ⌝ }
     ensures right { λ r.
@@ -67,8 +67,8 @@ fn pieced(
         Right
         (held
         (rack (r .state)
-        (arrays (now (tops .exit)) (now (ends .exit)) (now (blocks .exit)) (now (adjustments .exit)))
-        (arrays (now («second_tops» .exit)) (now («second_ends» .exit)) (now («second_blocks» .exit)) (now («second_adjustments» .exit)))))
+        (left tops ends blocks adjustments)
+        (left «second_tops» «second_ends» «second_blocks» «second_adjustments»)))
         ⌝ }
     ensures reached { λ r.
         ⌜ (from < r .from) × (r .from ≤ length (now (block .entry))) × (r .kept ≤ 65) × (r .at + 64 ≤ 491584) ⌝ }
@@ -77,13 +77,13 @@ fn pieced(
         Obeys (now (line .entry)) kept (part from (r .from) (now (block .entry)))
         (held
         (rack state
-        (arrays (now (tops .entry)) (now (ends .entry)) (now (blocks .entry)) (now (adjustments .entry)))
-        (arrays (now («second_tops» .entry)) (now («second_ends» .entry)) (now («second_blocks» .entry)) (now («second_adjustments» .entry)))))
+        (given tops ends blocks adjustments)
+        (given «second_tops» «second_ends» «second_blocks» «second_adjustments»)))
         (now (line .exit)) (r .kept)
         (held
         (rack (r .state)
-        (arrays (now (tops .exit)) (now (ends .exit)) (now (blocks .exit)) (now (adjustments .exit)))
-        (arrays (now («second_tops» .exit)) (now («second_ends» .exit)) (now («second_blocks» .exit)) (now («second_adjustments» .exit)))))
+        (left tops ends blocks adjustments)
+        (left «second_tops» «second_ends» «second_blocks» «second_adjustments»)))
         ⌝ }
 {
     let cut = gather(block, from, line, kept);
@@ -145,8 +145,8 @@ fn whole(
         Right
         (held
         (rack state
-        (arrays (now tops) (now ends) (now blocks) (now adjustments))
-        (arrays (now «second_tops») (now «second_ends») (now «second_blocks») (now «second_adjustments»))))
+        (arraysNow tops ends blocks adjustments)
+        (arraysNow «second_tops» «second_ends» «second_blocks» «second_adjustments»)))
         ⌝ }
     requires { ⌜ (from < length (now block)) × (at + 64 ≤ 491584) ⌝ }
     ensures right { λ r.
@@ -154,8 +154,8 @@ fn whole(
         Right
         (held
         (rack (r .state)
-        (arrays (now (tops .exit)) (now (ends .exit)) (now (blocks .exit)) (now (adjustments .exit)))
-        (arrays (now («second_tops» .exit)) (now («second_ends» .exit)) (now («second_blocks» .exit)) (now («second_adjustments» .exit)))))
+        (left tops ends blocks adjustments)
+        (left «second_tops» «second_ends» «second_blocks» «second_adjustments»)))
         ⌝ }
     ensures reached { λ r.
         ⌜ (from < r .from) × (r .from ≤ length (now (block .entry))) × (r .kept ≤ 65) × (r .at + 64 ≤ 491584) ⌝ }
@@ -164,13 +164,13 @@ fn whole(
         Obeys (now (line .entry)) 0 (part from (r .from) (now (block .entry)))
         (held
         (rack state
-        (arrays (now (tops .entry)) (now (ends .entry)) (now (blocks .entry)) (now (adjustments .entry)))
-        (arrays (now («second_tops» .entry)) (now («second_ends» .entry)) (now («second_blocks» .entry)) (now («second_adjustments» .entry)))))
+        (given tops ends blocks adjustments)
+        (given «second_tops» «second_ends» «second_blocks» «second_adjustments»)))
         (now (line .exit)) (r .kept)
         (held
         (rack (r .state)
-        (arrays (now (tops .exit)) (now (ends .exit)) (now (blocks .exit)) (now (adjustments .exit)))
-        (arrays (now («second_tops» .exit)) (now («second_ends» .exit)) (now («second_blocks» .exit)) (now («second_adjustments» .exit)))))
+        (left tops ends blocks adjustments)
+        (left «second_tops» «second_ends» «second_blocks» «second_adjustments»)))
         ⌝ }
 {
     let end = feed_at(block, from);
@@ -234,8 +234,8 @@ fn next(
         Right
         (held
         (rack state
-        (arrays (now tops) (now ends) (now blocks) (now adjustments))
-        (arrays (now «second_tops») (now «second_ends») (now «second_blocks») (now «second_adjustments»))))
+        (arraysNow tops ends blocks adjustments)
+        (arraysNow «second_tops» «second_ends» «second_blocks» «second_adjustments»)))
         ⌝ }
     requires { ⌜ (from < length (now block)) × (kept ≤ 65) × (at + 64 ≤ 491584) ⌝ }
     ensures right { λ r.
@@ -243,8 +243,8 @@ fn next(
         Right
         (held
         (rack (r .state)
-        (arrays (now (tops .exit)) (now (ends .exit)) (now (blocks .exit)) (now (adjustments .exit)))
-        (arrays (now («second_tops» .exit)) (now («second_ends» .exit)) (now («second_blocks» .exit)) (now («second_adjustments» .exit)))))
+        (left tops ends blocks adjustments)
+        (left «second_tops» «second_ends» «second_blocks» «second_adjustments»)))
         ⌝ }
     ensures reached { λ r.
         ⌜ (from < r .from) × (r .from ≤ length (now (block .entry))) × (r .kept ≤ 65) × (r .at + 64 ≤ 491584) ⌝ }
@@ -253,13 +253,13 @@ fn next(
         Obeys (now (line .entry)) kept (part from (r .from) (now (block .entry)))
         (held
         (rack state
-        (arrays (now (tops .entry)) (now (ends .entry)) (now (blocks .entry)) (now (adjustments .entry)))
-        (arrays (now («second_tops» .entry)) (now («second_ends» .entry)) (now («second_blocks» .entry)) (now («second_adjustments» .entry)))))
+        (given tops ends blocks adjustments)
+        (given «second_tops» «second_ends» «second_blocks» «second_adjustments»)))
         (now (line .exit)) (r .kept)
         (held
         (rack (r .state)
-        (arrays (now (tops .exit)) (now (ends .exit)) (now (blocks .exit)) (now (adjustments .exit)))
-        (arrays (now («second_tops» .exit)) (now («second_ends» .exit)) (now («second_blocks» .exit)) (now («second_adjustments» .exit)))))
+        (left tops ends blocks adjustments)
+        (left «second_tops» «second_ends» «second_blocks» «second_adjustments»)))
         ⌝ }
 {
     if kept == 0 {
@@ -322,8 +322,8 @@ fn feed(
         Right
         (held
         (rack state
-        (arrays (now tops) (now ends) (now blocks) (now adjustments))
-        (arrays (now «second_tops») (now «second_ends») (now «second_blocks») (now «second_adjustments»))))
+        (arraysNow tops ends blocks adjustments)
+        (arraysNow «second_tops» «second_ends» «second_blocks» «second_adjustments»)))
         ⌝ }
     requires { ⌜ kept ≤ 65 ⌝ }
     ensures right { λ r.
@@ -331,8 +331,8 @@ fn feed(
         Right
         (held
         (rack (r .state)
-        (arrays (now (tops .exit)) (now (ends .exit)) (now (blocks .exit)) (now (adjustments .exit)))
-        (arrays (now («second_tops» .exit)) (now («second_ends» .exit)) (now («second_blocks» .exit)) (now («second_adjustments» .exit)))))
+        (left tops ends blocks adjustments)
+        (left «second_tops» «second_ends» «second_blocks» «second_adjustments»)))
         ⌝ }
     ensures kept { λ r. ⌜ r .kept ≤ 65 ⌝ }
     ensures all { λ r. ⌜ (r .open ≡ true → r .from ≡ length (now (block .entry))) ⌝ }
@@ -341,13 +341,13 @@ fn feed(
         Obeys (now (line .entry)) kept (take (r .from) (now (block .entry)))
         (held
         (rack state
-        (arrays (now (tops .entry)) (now (ends .entry)) (now (blocks .entry)) (now (adjustments .entry)))
-        (arrays (now («second_tops» .entry)) (now («second_ends» .entry)) (now («second_blocks» .entry)) (now («second_adjustments» .entry)))))
+        (given tops ends blocks adjustments)
+        (given «second_tops» «second_ends» «second_blocks» «second_adjustments»)))
         (now (line .exit)) (r .kept)
         (held
         (rack (r .state)
-        (arrays (now (tops .exit)) (now (ends .exit)) (now (blocks .exit)) (now (adjustments .exit)))
-        (arrays (now («second_tops» .exit)) (now («second_ends» .exit)) (now («second_blocks» .exit)) (now («second_adjustments» .exit)))))
+        (left tops ends blocks adjustments)
+        (left «second_tops» «second_ends» «second_blocks» «second_adjustments»)))
         ⌝ }
 {
     let mut fed = Fed {
@@ -405,8 +405,8 @@ fn finish(
         Right
         (held
         (rack state
-        (arrays (now tops) (now ends) (now blocks) (now adjustments))
-        (arrays (now «second_tops») (now «second_ends») (now «second_blocks») (now «second_adjustments»))))
+        (arraysNow tops ends blocks adjustments)
+        (arraysNow «second_tops» «second_ends» «second_blocks» «second_adjustments»)))
         ⌝ }
     requires { ⌜ kept ≤ length (now line) ⌝ }
     ensures right { λ r.
@@ -414,8 +414,8 @@ fn finish(
         Right
         (held
         (rack (r .state)
-        (arrays (now (tops .exit)) (now (ends .exit)) (now (blocks .exit)) (now (adjustments .exit)))
-        (arrays (now («second_tops» .exit)) (now («second_ends» .exit)) (now («second_blocks» .exit)) (now («second_adjustments» .exit)))))
+        (left tops ends blocks adjustments)
+        (left «second_tops» «second_ends» «second_blocks» «second_adjustments»)))
         ⌝ }
     ensures kept { λ r. ⌜ r .kept ≤ 65 ⌝ }
     ensures closed { λ r. ⌜ r .open ≡ false ⌝ }
@@ -424,12 +424,12 @@ fn finish(
         Ends (now (line .entry)) kept
         (held
         (rack state
-        (arrays (now (tops .entry)) (now (ends .entry)) (now (blocks .entry)) (now (adjustments .entry)))
-        (arrays (now («second_tops» .entry)) (now («second_ends» .entry)) (now («second_blocks» .entry)) (now («second_adjustments» .entry)))))
+        (given tops ends blocks adjustments)
+        (given «second_tops» «second_ends» «second_blocks» «second_adjustments»)))
         (held
         (rack (r .state)
-        (arrays (now (tops .exit)) (now (ends .exit)) (now (blocks .exit)) (now (adjustments .exit)))
-        (arrays (now («second_tops» .exit)) (now («second_ends» .exit)) (now («second_blocks» .exit)) (now («second_adjustments» .exit)))))
+        (left tops ends blocks adjustments)
+        (left «second_tops» «second_ends» «second_blocks» «second_adjustments»)))
         ⌝ }
 {
     if kept == 0 {
@@ -500,8 +500,8 @@ fn answer(
         Right
         (held
         (rack state
-        (arrays (now tops) (now ends) (now blocks) (now adjustments))
-        (arrays (now «second_tops») (now «second_ends») (now «second_blocks») (now «second_adjustments»))))
+        (arraysNow tops ends blocks adjustments)
+        (arraysNow «second_tops» «second_ends» «second_blocks» «second_adjustments»)))
         ⌝ }
     requires { ⌜ (kept ≤ 65) × Counts n (now block) ⌝ }
     ensures right { λ r.
@@ -509,8 +509,8 @@ fn answer(
         Right
         (held
         (rack (r .state)
-        (arrays (now (tops .exit)) (now (ends .exit)) (now (blocks .exit)) (now (adjustments .exit)))
-        (arrays (now («second_tops» .exit)) (now («second_ends» .exit)) (now («second_blocks» .exit)) (now («second_adjustments» .exit)))))
+        (left tops ends blocks adjustments)
+        (left «second_tops» «second_ends» «second_blocks» «second_adjustments»)))
         ⌝ }
     ensures kept { λ r. ⌜ r .kept ≤ 65 ⌝ }
     ensures all { λ r. ⌜ (r .open ≡ true → r .from ≡ n) ⌝ }
@@ -519,25 +519,25 @@ fn answer(
         (0 < n → Obeys (now (line .entry)) kept (take (r .from) (take n (now (block .entry))))
         (held
         (rack state
-        (arrays (now (tops .entry)) (now (ends .entry)) (now (blocks .entry)) (now (adjustments .entry)))
-        (arrays (now («second_tops» .entry)) (now («second_ends» .entry)) (now («second_blocks» .entry)) (now («second_adjustments» .entry)))))
+        (given tops ends blocks adjustments)
+        (given «second_tops» «second_ends» «second_blocks» «second_adjustments»)))
         (now (line .exit)) (r .kept)
         (held
         (rack (r .state)
-        (arrays (now (tops .exit)) (now (ends .exit)) (now (blocks .exit)) (now (adjustments .exit)))
-        (arrays (now («second_tops» .exit)) (now («second_ends» .exit)) (now («second_blocks» .exit)) (now («second_adjustments» .exit))))))
+        (left tops ends blocks adjustments)
+        (left «second_tops» «second_ends» «second_blocks» «second_adjustments»))))
         ⌝ }
     ensures ended { λ r.
         ⌜
         (n ≡ 0 → Ends (now (line .entry)) kept
         (held
         (rack state
-        (arrays (now (tops .entry)) (now (ends .entry)) (now (blocks .entry)) (now (adjustments .entry)))
-        (arrays (now («second_tops» .entry)) (now («second_ends» .entry)) (now («second_blocks» .entry)) (now («second_adjustments» .entry)))))
+        (given tops ends blocks adjustments)
+        (given «second_tops» «second_ends» «second_blocks» «second_adjustments»)))
         (held
         (rack (r .state)
-        (arrays (now (tops .exit)) (now (ends .exit)) (now (blocks .exit)) (now (adjustments .exit)))
-        (arrays (now («second_tops» .exit)) (now («second_ends» .exit)) (now («second_blocks» .exit)) (now («second_adjustments» .exit))))))
+        (left tops ends blocks adjustments)
+        (left «second_tops» «second_ends» «second_blocks» «second_adjustments»))))
         ⌝ }
 {
     if n == 0 {
@@ -615,8 +615,8 @@ fn serve(
     rows: &mut [u32; 40960],
     out: &mut [u8; 491584],
 )
-    requires { ⌜ roomShort (arrays (now tops) (now ends) (now blocks) (now adjustments)) ≡ false ⌝ }
-    requires { ⌜ roomShort (arrays (now «second_tops») (now «second_ends») (now «second_blocks») (now «second_adjustments»)) ≡ false ⌝ }
+    requires { ⌜ roomShort (arraysNow tops ends blocks adjustments) ≡ false ⌝ }
+    requires { ⌜ roomShort (arraysNow «second_tops» «second_ends» «second_blocks» «second_adjustments») ≡ false ⌝ }
 {
     let mut fed = start();
     let mut blocks_left = 18_446_744_073_709_551_615u64;

@@ -8,7 +8,8 @@ use Rattle.model.specs.Basics.{_and_}
 use Rattle.model.specs.Initial.{initial}
 use Rattle.model.specs.Expansion.{expanded}
 use Rattle.model.specs.Calls.{answer}
-use Rattle.model.specs.Console.{Session, fresh, noMap, isFresh, isUnreadable, sizes, commandRefusal, read, line, accepted as acceptedSession, acceptedText, after, printed}
+use Rattle.model.specs.Table.{sizes}
+use Rattle.model.specs.Console.{Session, fresh, noMap, isFresh, isUnreadable, commandRefusal, read, line, accepted as acceptedSession, acceptedText, after, printed}
 use Rattle.model.specs.declared.command.Command.{Command}
 use Rattle.model.specs.declared.command.Command.the-variants.{Fresh, Grow, Where, At, Moves, Unreadable}
 use Rattle.model.proofs.Refusals.{first-clear, accepted as answer-accepted, refused as answer-refused}

@@ -9,13 +9,13 @@ use native.Mathlib.Omega.{arith}
 use lib.Dec.{eqb}
 use borrow.Author.Tests.{eq-eqb, ne-eqb}
 use Rattle.model.specs.Basics.{if_then_else_, _and_}
-use Rattle.model.specs.Table.{Table, Arrays, header, written}
+use Rattle.model.specs.Table.{Table, Arrays, header, written, sizes}
 use Rattle.model.specs.Place.{bin, position, located, locatedRefusal}
 use Rattle.model.specs.Refusal.{first}
 use Rattle.model.specs.Initial.{initial}
 use Rattle.model.specs.Expansion.{expanded, moved}
 use Rattle.model.specs.Calls.{answer, sizeTests, findTests, tableReply, arraysAfter, placeAnswer, findAnswer}
-use Rattle.model.specs.Console.{noMap, current, isFresh, isUnreadable, sizes, commandTests, commandRefusal}
+use Rattle.model.specs.Console.{noMap, current, isFresh, isUnreadable, commandTests, commandRefusal}
 use Rattle.model.specs.declared.command.Command.{Command}
 use Rattle.model.specs.declared.command.Command.the-variants.{Fresh, Grow, Where, At, Moves, Unreadable}
 use Rattle.model.specs.declared.reply.TableReply.{TableReply}

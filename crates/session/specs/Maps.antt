@@ -6,14 +6,14 @@ use mathlib.Core.List.{List, [], _∷_}
 use lib.ListN.{length}
 use lib.Dec.{eqb}
 use Rattle.model.specs.Basics.{if_then_else_, _and_}
-use Rattle.model.specs.Table.{Shape, Table, Arrays, table, header, written}
+use Rattle.model.specs.Table.{Shape, Table, Arrays, table, header, written, sizes}
 use Rattle.model.specs.Place.{bin, position, bucketAt}
 use Rattle.model.specs.Refusal.{first, roomShort}
 use Rattle.model.specs.Sound.{Sound}
 use Rattle.model.specs.Initial.{initial}
 use Rattle.model.specs.Expansion.{expanded, moved}
 use Rattle.model.specs.Calls.{answer, growthTests}
-use Rattle.model.specs.Console.{Session, empty, fresh, grown, current, sizes, commandRefusal, line, moveLines}
+use Rattle.model.specs.Console.{Session, empty, fresh, grown, current, commandRefusal, line, moveLines}
 use Rattle.model.specs.declared.command.Command.{Command}
 use Rattle.model.specs.declared.command.Command.the-variants.{Fresh, Grow, Where, At, Moves, Unreadable}
 use Rattle.session.specs.declared.state.Stage.{Stage}

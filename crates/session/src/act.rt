@@ -7,7 +7,7 @@ use model::command::Command;
 use model::table::Header;
 ghost use mathlib.Core.Path.{_≡_};
 ghost use mathlib.Core.Bool.{false};
-ghost use Rattle.model.specs.Table.{arrays};
+ghost use Rattle.model.specs.Lent.{given, left, arraysNow};
 ghost use Rattle.model.specs.Refusal.{roomShort};
 ghost use Rattle.model.specs.declared.command.Command.the-variants as line;
 ghost use Rattle.session.specs.declared.state.Answer.the-variants as says;
@@ -57,12 +57,12 @@ fn fresh(
     blocks: &mut [u32],
     adjustments: &mut [u32],
 ) -> Step
-    requires { ⌜ roomShort (arrays (now tops) (now ends) (now blocks) (now adjustments)) ≡ false ⌝ }
+    requires { ⌜ roomShort (arraysNow tops ends blocks adjustments) ≡ false ⌝ }
     ensures { λ r.
         ⌜
-        Renews state (arrays (now (tops .entry)) (now (ends .entry)) (now (blocks .entry)) (now (adjustments .entry)))
+        Renews state (given tops ends blocks adjustments)
         (line.Fresh buckets bins) r
-        (arrays (now (tops .exit)) (now (ends .exit)) (now (blocks .exit)) (now (adjustments .exit)))
+        (left tops ends blocks adjustments)
         ⌝ }
 {
     let wrong = sizes::size_refusal(buckets, bins);
@@ -105,17 +105,17 @@ fn grow(
     new_blocks: &mut [u32],
     new_adjustments: &mut [u32],
 ) -> Step
-    requires { ⌜ Mapped state (arrays (now tops) (now ends) (now blocks) (now adjustments)) ⌝ }
-    requires { ⌜ roomShort (arrays (now «new_tops») (now «new_ends») (now «new_blocks») (now «new_adjustments»)) ≡ false ⌝ }
+    requires { ⌜ Mapped state (arraysNow tops ends blocks adjustments) ⌝ }
+    requires { ⌜ roomShort (arraysNow «new_tops» «new_ends» «new_blocks» «new_adjustments») ≡ false ⌝ }
     ensures { λ r.
         ⌜
         Stepped
         (maps state
-        (arrays (now (tops .entry)) (now (ends .entry)) (now (blocks .entry)) (now (adjustments .entry)))
-        (arrays (now («new_tops» .entry)) (now («new_ends» .entry)) (now («new_blocks» .entry)) (now («new_adjustments» .entry))))
+        (given tops ends blocks adjustments)
+        (given «new_tops» «new_ends» «new_blocks» «new_adjustments»))
         (line.Grow buckets bins) r
-        (arrays (now (tops .entry)) (now (ends .entry)) (now (blocks .entry)) (now (adjustments .entry)))
-        (arrays (now («new_tops» .exit)) (now («new_ends» .exit)) (now («new_blocks» .exit)) (now («new_adjustments» .exit)))
+        (given tops ends blocks adjustments)
+        (left «new_tops» «new_ends» «new_blocks» «new_adjustments»)
         ⌝ }
 {
     if is_empty(state) {
@@ -164,8 +164,8 @@ fn place(
     adjustments: &[u32],
     bucket: u32,
 ) -> Step
-    requires { ⌜ Mapped state (arrays (now tops) (now ends) (now blocks) (now adjustments)) ⌝ }
-    ensures { λ r. ⌜ Reads state (arrays (now (tops .entry)) (now (ends .entry)) (now (blocks .entry)) (now (adjustments .entry))) (line.Where bucket) r ⌝ }
+    requires { ⌜ Mapped state (arraysNow tops ends blocks adjustments) ⌝ }
+    ensures { λ r. ⌜ Reads state (given tops ends blocks adjustments) (line.Where bucket) r ⌝ }
 {
     if is_empty(state) {
         return refused(state, 10);
@@ -194,8 +194,8 @@ fn find(
     bin: u32,
     position: u32,
 ) -> Step
-    requires { ⌜ Mapped state (arrays (now tops) (now ends) (now blocks) (now adjustments)) ⌝ }
-    ensures { λ r. ⌜ Reads state (arrays (now (tops .entry)) (now (ends .entry)) (now (blocks .entry)) (now (adjustments .entry))) (line.At bin position) r ⌝ }
+    requires { ⌜ Mapped state (arraysNow tops ends blocks adjustments) ⌝ }
+    ensures { λ r. ⌜ Reads state (given tops ends blocks adjustments) (line.At bin position) r ⌝ }
 {
     if is_empty(state) {
         return refused(state, 10);
@@ -249,18 +249,18 @@ pub fn act(
     requires { ⌜
         Right
         (maps state
-        (arrays (now tops) (now ends) (now blocks) (now adjustments))
-        (arrays (now «other_tops») (now «other_ends») (now «other_blocks») (now «other_adjustments»)))
+        (arraysNow tops ends blocks adjustments)
+        (arraysNow «other_tops» «other_ends» «other_blocks» «other_adjustments»))
         ⌝ }
     ensures { λ r.
         ⌜
         Stepped
         (maps state
-        (arrays (now (tops .entry)) (now (ends .entry)) (now (blocks .entry)) (now (adjustments .entry)))
-        (arrays (now («other_tops» .entry)) (now («other_ends» .entry)) (now («other_blocks» .entry)) (now («other_adjustments» .entry))))
+        (given tops ends blocks adjustments)
+        (given «other_tops» «other_ends» «other_blocks» «other_adjustments»))
         command r
-        (arrays (now (tops .exit)) (now (ends .exit)) (now (blocks .exit)) (now (adjustments .exit)))
-        (arrays (now («other_tops» .exit)) (now («other_ends» .exit)) (now («other_blocks» .exit)) (now («other_adjustments» .exit)))
+        (left tops ends blocks adjustments)
+        (left «other_tops» «other_ends» «other_blocks» «other_adjustments»)
         ⌝ }
 {
     match command {

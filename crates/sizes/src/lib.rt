@@ -3,15 +3,15 @@ use model::reply::TableReply;
 use model::table::Header;
 ghost use mathlib.Core.Path.{_≡_};
 ghost use mathlib.Core.Bool.{false};
-ghost use Rattle.model.specs.Table.{arrays, written};
+ghost use Rattle.model.specs.Lent.{given, left, arraysNow};
+ghost use Rattle.model.specs.Table.{written, sizes};
 ghost use Rattle.model.specs.Refusal.{first, roomShort};
 ghost use Rattle.model.specs.Initial.{initial};
 ghost use Rattle.model.specs.Calls.{sizeTests};
-ghost use Rattle.model.specs.Console.{sizes as sizesOf};
 
 // 21: room for a new table below 65 tops or below 2,081 of any interval array.
 pub fn room_short(tops: &[u32], ends: &[u32], blocks: &[u32], adjustments: &[u32]) -> bool
-    ensures { λ r. ⌜ r ≡ roomShort (arrays (now (tops .entry)) (now (ends .entry)) (now (blocks .entry)) (now (adjustments .entry))) ⌝ }
+    ensures { λ r. ⌜ r ≡ roomShort (given tops ends blocks adjustments) ⌝ }
 {
     if tops.len() < 65 {
         return true;
@@ -27,7 +27,7 @@ pub fn room_short(tops: &[u32], ends: &[u32], blocks: &[u32], adjustments: &[u32
 
 // 1: a size is 0 or above its limit. 2: n > B. The number of the first that holds, or 0.
 pub fn size_refusal(buckets: u32, bins: u32) -> u32
-    ensures { λ r. ⌜ r ≡ first (sizeTests (sizesOf buckets bins)) ⌝ }
+    ensures { λ r. ⌜ r ≡ first (sizeTests (sizes buckets bins)) ⌝ }
 {
     if buckets == 0 {
         return 1;
@@ -56,12 +56,12 @@ pub fn write_initial(
     blocks: &mut [u32],
     adjustments: &mut [u32],
 )
-    requires { ⌜ roomShort (arrays (now tops) (now ends) (now blocks) (now adjustments)) ≡ false ⌝ }
+    requires { ⌜ roomShort (arraysNow tops ends blocks adjustments) ≡ false ⌝ }
     ensures { λ _.
         ⌜
-        arrays (now (tops .exit)) (now (ends .exit)) (now (blocks .exit)) (now (adjustments .exit))
-        ≡ written (initial (sizesOf buckets bins))
-        (arrays (now (tops .entry)) (now (ends .entry)) (now (blocks .entry)) (now (adjustments .entry)))
+        left tops ends blocks adjustments
+        ≡ written (initial (sizes buckets bins))
+        (given tops ends blocks adjustments)
         ⌝ }
 {
     tops[0] = bins;

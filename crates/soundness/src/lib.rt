@@ -5,6 +5,7 @@ ghost use mathlib.Core.Path.{_≡_};
 ghost use mathlib.Core.List.{List, []};
 ghost use Prim.Native.Nat.{ℕ, _≤_};
 ghost use lib.ListN.{length, replicate};
+ghost use Rattle.model.specs.Lent.{given};
 ghost use Rattle.model.specs.Limits.{maxBlocks};
 ghost use Rattle.model.specs.Table.{arrays};
 ghost use Rattle.model.specs.Refusal.{
@@ -47,7 +48,7 @@ pub fn header_outside(h: Header) -> bool
 
 // 11: a lent array shorter than its count.
 fn arrays_short(h: Header, tops: &[u32], ends: &[u32], blocks: &[u32], adjustments: &[u32]) -> bool
-    ensures { λ r. ⌜ r ≡ arraysShort h (arrays (now (tops .entry)) (now (ends .entry)) (now (blocks .entry)) (now (adjustments .entry))) ⌝ }
+    ensures { λ r. ⌜ r ≡ arraysShort h (given tops ends blocks adjustments) ⌝ }
 {
     let intervals = h.interval_count as usize;
     if tops.len() < h.block_count as usize {
@@ -181,7 +182,7 @@ fn holdings_wrong(h: Header, tops: &[u32], sums: &[u32; 65]) -> bool
 
 // The number of the first of rules 11 to 16 that the table breaks, or 0.
 pub fn check(h: Header, tops: &[u32], ends: &[u32], blocks: &[u32], adjustments: &[u32]) -> u32
-    ensures { λ r. ⌜ r ≡ first (tableTests h (arrays (now (tops .entry)) (now (ends .entry)) (now (blocks .entry)) (now (adjustments .entry)))) ⌝ }
+    ensures { λ r. ⌜ r ≡ first (tableTests h (given tops ends blocks adjustments)) ⌝ }
 {
     if header_outside(h) {
         return 11;

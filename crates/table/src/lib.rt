@@ -3,9 +3,9 @@ use model::table::Header;
 ghost use Prim.Native.Nat.{_+_, _*_, _^_, min, _≤_, _<_};
 ghost use mathlib.Core.Path.{_≡_};
 ghost use lib.ListN.{length};
+ghost use Rattle.model.specs.Lent.{LentSound, tableGiven};
 ghost use Rattle.model.specs.Basics.{before as entryBefore};
 ghost use Rattle.model.specs.Table.{bins as binsOf};
-ghost use Rattle.model.specs.Lent.{lent, LentSound};
 
 // The entry before place i of xs; 0 stands before the first. The start of interval i, or the first bin of block i.
 pub fn before(xs: &[u32], i: usize) -> u32
@@ -17,8 +17,8 @@ pub fn before(xs: &[u32], i: usize) -> u32
 
 // n: the last top.
 pub fn bin_count(h: Header, tops: &[u32], ends: &[u32], blocks: &[u32], adjustments: &[u32]) -> u32
-    requires { ⌜ LentSound h (now tops) (now ends) (now blocks) (now adjustments) ⌝ }
-    ensures { λ r. ⌜ r ≡ binsOf (lent h (now (tops .entry)) (now (ends .entry)) (now (blocks .entry)) (now (adjustments .entry))) ⌝ }
+    requires { ⌜ LentSound h tops ends blocks adjustments ⌝ }
+    ensures { λ r. ⌜ r ≡ binsOf (tableGiven h tops ends blocks adjustments) ⌝ }
 {
     before(tops, h.block_count as usize)
 }

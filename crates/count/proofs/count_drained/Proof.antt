@@ -5,9 +5,8 @@ use mathlib.Core.Path.{_≡_, ap}
 use native.Mathlib.Omega.{arith}
 use lib.ListN.{length, getD, length-append}
 use borrow.Author.Needs.{needs}
-use Rattle.model.specs.Table.{Shape, Arrays, arrays, table}
+use Rattle.model.specs.Table.{Shape, Arrays, arrays, table, sizes}
 use Rattle.model.specs.Expansion.{drained}
-use Rattle.model.specs.Console.{sizes}
 use Rattle.model.proofs.Tables.{lentInterval}
 use Rattle.model.proofs.Growths.{accepted}
 use Rattle.model.proofs.Steps.{Walk, walk-start, walk-next, walk-end}

@@ -5,9 +5,8 @@ use mathlib.Core.Path.{_≡_, sym, _∙_, ap}
 use native.Mathlib.Nat.{sub-zero}
 use native.Mathlib.Omega.{arith}
 use lib.ListN.{length}
-use Rattle.model.specs.Table.{Shape, Table}
+use Rattle.model.specs.Table.{Shape, Table, sizes}
 use Rattle.model.specs.Expansion.{pieces as piecesOf}
-use Rattle.model.specs.Console.{sizes}
 use Rattle.model.proofs.Steps.{pieces-length}
 use Rattle.model.specs.Lent.{lent}
 use Rattle.count.specs.Made.{pieceOf}

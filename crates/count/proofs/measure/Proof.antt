@@ -2,8 +2,7 @@
 use mathlib.Core.Path.{sym, _∙_}
 use native.Mathlib.Omega.{arith}
 use borrow.Author.Needs.{needs}
-use Rattle.model.specs.Table.{Shape, Table}
-use Rattle.model.specs.Console.{sizes}
+use Rattle.model.specs.Table.{Shape, Table, sizes}
 use Rattle.model.proofs.Filled.{lengthTo}
 use Rattle.model.proofs.Steps.{drained-count, drained-moves, filled-count, filled-moves}
 use Rattle.model.specs.Lent.{lent}

@@ -4,9 +4,8 @@ use mathlib.Core.Path.{_≡_, sym}
 use native.Mathlib.Omega.{arith}
 use lib.ListN.{getD}
 use borrow.Author.Needs.{needs}
-use Rattle.model.specs.Table.{Shape, Table}
+use Rattle.model.specs.Table.{Shape, Table, sizes}
 use Rattle.model.specs.Expansion.{lastBlock}
-use Rattle.model.specs.Console.{sizes}
 use Rattle.model.proofs.Steps.{last-lent}
 use Rattle.model.specs.Lent.{lent}
 use Rattle.count.proofs.Pieces.{piece-own, piece-other, gain-from}

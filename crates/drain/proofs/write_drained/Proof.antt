@@ -3,9 +3,8 @@
 use Prim.Native.Nat.{_+_, _-_, _≤_}
 use native.Mathlib.Omega.{arith}
 use lib.ListN.{getD}
-use Rattle.model.specs.Table.{Shape, Arrays, arrays, table}
+use Rattle.model.specs.Table.{Shape, Arrays, arrays, table, sizes}
 use Rattle.model.specs.Expansion.{drained}
-use Rattle.model.specs.Console.{sizes}
 use Rattle.model.proofs.Tables.{lentInterval}
 use Rattle.model.proofs.Growths.{accepted}
 use Rattle.model.proofs.Steps.{Walk, walk-start, walk-next}

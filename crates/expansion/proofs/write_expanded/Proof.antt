@@ -2,9 +2,8 @@
 use native.Mathlib.Omega.{arith}
 use lib.ListN.{length}
 use borrow.Author.Needs.{needs}
-use Rattle.model.specs.Table.{Shape, Table}
+use Rattle.model.specs.Table.{Shape, Table, sizes}
 use Rattle.model.specs.Expansion.{expanded}
-use Rattle.model.specs.Console.{sizes}
 use Rattle.model.proofs.Rooms.{roomy}
 use Rattle.model.specs.Lent.{lent}
 use Rattle.drain.specs.Stored.{Room}

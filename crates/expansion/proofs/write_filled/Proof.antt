@@ -5,9 +5,8 @@ use native.Mathlib.Omega.{arith}
 use lib.ListN.{length, getD}
 use borrow.Author.Needs.{needs}
 use Rattle.model.specs.Limits.{maxBlocks}
-use Rattle.model.specs.Table.{Shape, Table}
+use Rattle.model.specs.Table.{Shape, Table, sizes}
 use Rattle.model.specs.Expansion.{newTops, pieces}
-use Rattle.model.specs.Console.{sizes}
 use Rattle.model.proofs.Filled.{lengthTo}
 use Rattle.model.proofs.Steps.{filled-length}
 use Rattle.model.specs.Lent.{lent}

@@ -1,8 +1,7 @@
 -- `expansion::write_intervals` meets its contract: one return for each case. Assumes nothing.
 use mathlib.Core.Path.{sym, _∙_}
 use borrow.Author.Needs.{needs}
-use Rattle.model.specs.Table.{Shape, Table}
-use Rattle.model.specs.Console.{sizes}
+use Rattle.model.specs.Table.{Shape, Table, sizes}
 use Rattle.model.proofs.Expanded.{expanded-drained, expanded-filled}
 use Rattle.model.proofs.Steps.{drained-count}
 use Rattle.model.specs.Lent.{lent}

@@ -7,9 +7,8 @@ use native.Mathlib.Nat.{sub-zero}
 use native.Mathlib.Omega.{arith}
 use lib.ListN.{length, getD}
 use Rattle.model.specs.Limits.{maxBlocks}
-use Rattle.model.specs.Table.{Shape, Table, interval, table}
+use Rattle.model.specs.Table.{Shape, Table, interval, table, sizes}
 use Rattle.model.specs.Expansion.{newTops, has, pieces}
-use Rattle.model.specs.Console.{sizes}
 use Rattle.model.proofs.Filled.{lengthTo}
 use Rattle.model.specs.Lent.{lent}
 use Rattle.drain.specs.Stored.{Room, Stored}

@@ -6,8 +6,7 @@ use lib.ListN.{length, take}
 use lib.Seq.{length-sets}
 use borrow.Author.Needs.{needs}
 use Rattle.model.specs.Limits.{maxBlocks}
-use Rattle.model.specs.Table.{Shape, Table, bins, table, over}
-use Rattle.model.specs.Console.{sizes}
+use Rattle.model.specs.Table.{Shape, Table, bins, table, over, sizes}
 use Rattle.model.proofs.Wells.{tops-length, sound-well}
 use Rattle.model.proofs.Growths.{accepted, tops-more, tops-same}
 use Rattle.model.proofs.Shares.{new-room}

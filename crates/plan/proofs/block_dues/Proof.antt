@@ -6,7 +6,7 @@ use Prim.Native.Nat.{_-_, _≤_}
 use mathlib.Core.Path.{_≡_, sym}
 use native.Mathlib.Omega.{arith}
 use Rattle.model.specs.Basics.{before}
-use Rattle.model.specs.Console.{sizes}
+use Rattle.model.specs.Table.{sizes}
 use Rattle.model.specs.Claims.{dueBelow}
 use Rattle.model.proofs.Holdings.{due-none}
 use Rattle.model.proofs.Shares.{Dues, dues-none, dues-more, dues-whole}

@@ -1,9 +1,8 @@
 -- `plan::blocks_after` meets its contract. Assumes nothing.
 use mathlib.Core.List.{[], _∷_}
 use lib.ListN.{length, length-append}
-use Rattle.model.specs.Table.{Shape, Table}
+use Rattle.model.specs.Table.{Shape, Table, sizes}
 use Rattle.model.specs.Lent.{lent}
-use Rattle.model.specs.Console.{sizes}
 use Rattle.model.proofs.Growths.{tops-more, tops-same}
 use Rattle.model.proofs.Wells.{tops-length}
 use mathlib.Core.Path.{sym, _∙_, ap}

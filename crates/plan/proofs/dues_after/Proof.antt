@@ -2,8 +2,7 @@
 use Prim.Native.Nat.{_-_}
 use mathlib.Core.Path.{sym, _∙_, ap}
 use native.Mathlib.Omega.{arith}
-use Rattle.model.specs.Table.{Shape, Table, table}
-use Rattle.model.specs.Console.{sizes}
+use Rattle.model.specs.Table.{Shape, Table, table, sizes}
 use Rattle.model.specs.Claims.{dueBelow}
 use Rattle.model.proofs.Wells.{Well, tops-length, bins-last, sound-well}
 use Rattle.model.proofs.Growths.{Accepted, accepted}

@@ -1,7 +1,6 @@
 -- `plan::dues_before` meets its contract: a block of a sound table has its due. Assumes nothing.
-use Rattle.model.specs.Table.{Table, shape, table}
+use Rattle.model.specs.Table.{Table, shape, table, sizes}
 use Rattle.model.specs.Due.{dueOfBlock}
-use Rattle.model.specs.Console.{sizes}
 use Rattle.model.proofs.Wells.{bins-last, sound-well}
 use Rattle.model.proofs.Shares.{has-dues}
 use Rattle.model.specs.Lent.{lent}

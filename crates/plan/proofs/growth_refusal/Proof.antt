@@ -1,10 +1,9 @@
 -- `plan::growth_refusal` meets its contract: one return for each case of the sizes. Assumes nothing.
 use mathlib.Core.Path.{_≡_, sym, _∙_}
 use native.Mathlib.Omega.{arith}
-use Rattle.model.specs.Table.{Shape, Table, table}
+use Rattle.model.specs.Table.{Shape, Table, table, sizes}
 use Rattle.model.specs.Refusal.{first}
 use Rattle.model.specs.Calls.{sizeTests}
-use Rattle.model.specs.Console.{sizes}
 use Rattle.model.specs.Lent.{lent}
 use lib.ListN.{length}
 use Rattle.model.proofs.Asked.{asked-sizes, asked-fewer, asked-narrower, asked-full, asked-wider, asked-same, asked-more}

@@ -1,7 +1,7 @@
 -- `relocations::relocation_count` meets its contract: max(0, B - T) rows. Assumes nothing.
 use native.Mathlib.Omega.{arith}
 use Rattle.model.specs.Claims.{dueBelow}
-use Rattle.model.specs.Console.{sizes}
+use Rattle.model.specs.Table.{sizes}
 use Rattle.model.proofs.Growths.{Accepted, accepted}
 use Rattle.model.proofs.Shares.{due-within}
 use Rattle.model.specs.Lent.{lent}

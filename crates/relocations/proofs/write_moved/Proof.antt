@@ -3,8 +3,7 @@ use Prim.Native.Nat.{_-_}
 use native.Mathlib.Nat.{lt-of-lt-of-le, le-of-lt}
 use native.Mathlib.Omega.{arith}
 use borrow.Author.Count.{falls}
-use Rattle.model.specs.Table.{Shape, Arrays, arrays, table}
-use Rattle.model.specs.Console.{sizes}
+use Rattle.model.specs.Table.{Shape, Arrays, arrays, table, sizes}
 use Rattle.model.proofs.Growths.{accepted}
 use Rattle.relocations.proofs.Walking.{
   Walking,
