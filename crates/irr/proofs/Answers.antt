@@ -9,8 +9,8 @@ use lib.ListN.{length}
 use borrow.Author.Tests.{lt-ltb, le-ltb, le-leb, lt-leb, eqb-true, not-false}
 use Rattle.model.specs.Basics.{if_then_else_}
 use Rattle.model.specs.Table.{Shape, Arrays, arrays, table, header, over, written}
-use Rattle.model.specs.Place.{located, locatedRefusal}
-use Rattle.model.specs.Refusal.{Test, first, roomShort, bucketPast}
+use Rattle.model.specs.Refusal.{Test, first, roomShort}
+use Rattle.model.specs.Search.{placeAt}
 use Rattle.model.specs.Sound.{Sound}
 use Rattle.model.specs.Initial.{initial}
 use Rattle.model.specs.Saved.{saved, savedLength, loadedHeader, loadedArrays, fileWrong}
@@ -20,7 +20,7 @@ use Rattle.model.proofs.Counts.{below-or}
 use Rattle.model.proofs.Refusals.{or-right, first-clear, first-here, first-skip, first-found, first-after, accepted, refused}
 use Rattle.model.proofs.Bytes.{saved-same}
 use Rattle.model.proofs.Soundness.{sound-iff, table-numbered}
-use Rattle.lookup.proofs.Searches.{located-refusal}
+use Rattle.model.proofs.Searches.{place-answered}
 
 module _ (h : Header) (a : Arrays) (r : ℕ) (e : r ≡ first (tableTests h a)) where
   -- a table that the check passes is sound
@@ -39,10 +39,10 @@ module _ (h : Header) (a : Arrays) (r : ℕ) (e : r ≡ first (tableTests h a)) 
   unfolding placeReply placeAnswer
   place-refused x n = rw (← stands (placeTests (table h a) x) n) (sym (refused r _ _ n))
 
-  pub place-accepted : (x : ℕ) → r ≡ 0 → placeAnswer (locatedRefusal (located (table h a) x)) (table h a) x ≡ placeReply h a x
+  pub place-accepted : (x : ℕ) → r ≡ 0 → placeAt (table h a) x ≡ placeReply h a x
   unfolding placeReply
   place-accepted x z =
-      ap (λ q. placeAnswer q (table h a) x) (located-refusal (table h a) x ∙ passed (placeTests (table h a) x) z)
+      sym (place-answered (table h a) x) ∙ ap (λ q. placeAnswer q (table h a) x) (passed (placeTests (table h a) x) z)
 
   pub find-refused : (y p : ℕ) → (r ≡ 0 → ⊥) → record { refusal = r; bucket = 0 } ≡ findReply h a y p
   unfolding findReply findAnswer

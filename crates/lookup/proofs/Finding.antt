@@ -1,9 +1,10 @@
 -- Laws of finding in a sound table: a bin's block and size, and the search for a rank. Assumes nothing.
-use Prim.Native.Nat.{ℕ, suc, _+_, _-_, _*_, _/_, _%_, _≤_, _<_}
+use Prim.Native.Nat.{ℕ, suc, _+_, _-_, _*_, _/_, _%_, _^_, _≤_, _<_}
 use mathlib.Core.Path.{_≡_, refl, ap, sym, _∙_}
 use mathlib.Core.Logic.{_⊎_, inl, inr, ⊎-elim}
 use mathlib.Core.Bool.{true, false}
 use mathlib.Core.List.{List}
+use native.Mathlib.Nat.{mul-le-mul}
 use native.Mathlib.Numerals.{add-one}
 use native.Mathlib.Omega.{arith}
 use lib.ListN.{length, getD, take, drop}
@@ -12,18 +13,22 @@ use lib.ListN.{drop-of-length-le}
 use borrow.Author.Tests.{lt-ltb, le-ltb, le-leb, lt-leb}
 use Rattle.model.specs.Basics.{if_then_else_, _or_, from, before}
 use Rattle.model.specs.Table.{Shape, Table, firstBin, Arrays, bins, shape, table}
-use Rattle.model.specs.Place.{blockOfBin, includes, holder, binSize, rankAt, holderRefusal, heldAt}
+use Rattle.model.specs.Place.{binSize}
+use Rattle.model.specs.Search.{blockOfBin, includes, holder, rankAt, foundOf, heldAt, foundAt}
 use Rattle.model.specs.Due.{due}
-use Rattle.model.specs.Refusal.{first, binPast, placePast}
+use Rattle.model.specs.Refusal.{first, binPast, searched}
 use Rattle.model.specs.Sound.{Sound}
 use Rattle.model.specs.Calls.{answer, binSizeAnswer, binSizeTests, findAnswer, findTests}
 use Rattle.model.specs.declared.table.Header.{Header}
-use Rattle.model.specs.declared.reply.BinSizeReply.{BinSizeReply}
 use Rattle.model.specs.declared.search.Holder.the-variants.{In, Nothing}
 use Rattle.model.proofs.Counts.{bit-cases, below-or}
 use Rattle.model.proofs.Dues.{due-more, due-less}
+use Rattle.model.proofs.Intervals.{before-mono}
 use Rattle.model.proofs.Places.{size-due}
-use Rattle.model.proofs.Finds.{entry, includes-holds, includes-true, Searched, place-searched}
+use Rattle.model.proofs.Finds.{entry, Including, includes-holds, includes-true, holder-in, found-in}
+use Rattle.model.proofs.Places.{bin-block, bin-within}
+use Rattle.model.proofs.Searches.{first-searched, found-whole}
+use Rattle.model.proofs.Refusals.{first-skip}
 use Rattle.model.proofs.Rules.{before-next}
 use Rattle.lookup.proofs.Searches.{first-kept, bins-kept}
 
@@ -157,95 +162,81 @@ module _ (h : Header) (a : Arrays) (s : Sound h a) (n y : ℕ) (e : n ≡ bins (
 
 -- THE BUCKET AT A PLACE
 
+-- a rank of 32-bit numbers, and one of them more, fit 64 bits
+pub rank-fits : (p d m : ℕ) → p < 2 ^ 32 → d < 2 ^ 32 → m < 2 ^ 32 → p * d + m + 2 ^ 32 ≤ 2 ^ 64
+rank-fits p d m l k n =
+    omega (arith, mul-le-mul {n₁ = p} {m₁ = d} {n₂ = 4_294_967_295} {m₂ = 4_294_967_295} (omega arith) (omega arith))
+
+-- the bucket of a rank that an interval includes is below B
+pub bucket-below
+    : (h : Header) (a : Arrays) → Sound h a → (i j r : ℕ) → i < h .«interval_count» → Including a i j r
+    → r + getD (a .adjustments) i 0 < h .buckets
+unfolding before
+bucket-below h a s i j r l c =
+    omega (
+      arith,
+      c .end,
+      before-mono (a .ends) (h .«interval_count») (s .endsRise) (h .«interval_count») (suc i) l (omega arith),
+      s .lastEnd,
+    )
+
 module _
     (h : Header) (a : Arrays) (s : Sound h a)
-    (y p : ℕ) (v : Searched h a y p)
+    (y p : ℕ) (l : y < bins (table h a))
     (block first : ℕ)
     (e : block ≡ blockOfBin (take (h .«block_count») (a .tops)) y)
     (f : first ≡ before (a .tops) block)
   where
-    pub block-below : block < h .«block_count»
+    -- the bin is one of its block
+    pub block-below : (block < h .«block_count») × (first ≤ y) × (first < getD (a .tops) block 0)
     unfolding table
-    block-below = omega (arith, v .block)
-
-    pub first-below : (first ≤ y) × (first < getD (a .tops) block 0)
-    unfolding table
-    first-below = (
-      omega (
-        arith,
-        ap (firstBin (table h a .tops)) e,
-        first-kept h a s block (omega (arith, block-below)),
-        v .first,
-      ),
-      omega (arith, s .topsRise block block-below),
-    )
+    block-below =
+        let (j, m, below, inside, g) = bin-block h a s y l in
+        let same : block ≡ j = e ∙ ap (blockOfBin (table h a .tops)) g ∙ bin-within h a s j m below inside .0 in
+        let low : first ≡ firstBin (table h a .tops) j =
+        f ∙ ap (before (a .tops)) same ∙ sym (first-kept h a j (omega arith)) in
+        (omega arith, omega arith, omega (arith, s .topsRise block (omega arith)))
 
     pub rank-here : p * (getD (a .tops) block 0 - first) + (y - first) ≡ rankAt (table h a .tops) y p
     unfolding rankAt table
     rank-here =
-        rw (
-          ← e,
-          bins-kept h a s block block-below,
-          first-kept h a s block (omega (arith, block-below)),
-          ← f,
-        )
+        rw (← e, bins-kept h a block (block-below .0), first-kept h a block (omega (arith, block-below .0)), ← f)
 
     module _ (rank : ℕ) (g : rank ≡ rankAt (table h a .tops) y p) where
-      -- the search's answer
-      pub answer-here : holder (table h a .intervals) 0 0 block rank ≡ In (v .place)
-      unfolding table
-      answer-here = rw (g, e) (v .found)
+      -- what the search for the rank answers is what finding answers
+      pub answer-here
+          : foundOf (table h a) rank (holder (table h a .intervals) 0 0 block rank) ≡ foundAt (table h a) y p
+      unfolding foundAt heldAt table
+      answer-here = rw (← g, ← e)
 
-      pub place-below : v .place < h .«interval_count»
-      place-below = v .below
+      pub find-nothing
+          : holder (table h a .intervals) 0 0 block rank ≡ Nothing → record { refusal = 7; bucket = 0 } ≡ foundAt (table h a) y p
+      unfolding foundOf
+      find-nothing n = sym (ap (foundOf (table h a) rank) n) ∙ answer-here
 
-      pub bucket-inside : rank + getD (a .adjustments) (v .place) 0 < h .buckets
-      bucket-inside = omega (arith, v .inside)
+      pub find-in
+          : (i : ℕ) → holder (table h a .intervals) 0 0 block rank ≡ In i
+          → record { refusal = 0; bucket = rank + getD (a .adjustments) i 0 } ≡ foundAt (table h a) y p
+      find-in i n =
+          sym (found-in h a rank i (holder-in h a block rank i n .0)) ∙ sym (ap (foundOf (table h a) rank) n) ∙ answer-here
 
-      pub find-here
-          : record { refusal = 0; bucket = rank + getD (a .adjustments) (v .place) 0 } ≡ findAnswer (holderRefusal (heldAt (table h a) y p)) (table h a) y p
-      unfolding findAnswer answer holderRefusal heldAt if_then_else_
-      find-here = rw (v .found, v .bucket, g)
+-- THE TEST OF A PLACE
 
--- A BIN'S SIZE AS IT WAS ANSWERED
-
-module _ (t : Table) (y : ℕ) (z : BinSizeReply) (e : z ≡ binSizeAnswer (first (binSizeTests t y)) t y) where
-  -- accepted: the bin is below n, and the size is its size
-  pub size-accepted : z .refusal ≡ 0 → (y < bins t) × (z .buckets ≡ binSize t y)
-  unfolding binSizeAnswer answer first binSizeTests binPast if_then_else_
-  size-accepted a =
-      ⊎-elim
-      (λ l. (l, ap (λ z. z .buckets) e ∙ rw (lt-leb (bins t) y l)))
-      (λ l.
-      let refused : z .refusal ≡ 7 = ap (λ z. z .refusal) e ∙ rw (le-leb (bins t) y l) in
-      absurd (omega arith))
-      (below-or y (bins t))
-
-  -- refused: the bin is not below n
-  pub size-refused : (z .refusal ≡ 0 → ⊥) → bins t ≤ y
-  unfolding binSizeAnswer answer first binSizeTests binPast if_then_else_
-  size-refused a =
-      ⊎-elim
-      (λ l. absurd (a (ap (λ z. z .refusal) e ∙ rw (lt-leb (bins t) y l))))
-      (λ l. l)
-      (below-or y (bins t))
-
--- the test of a place
-pub place-outside
-    : (t : Table) (y p : ℕ) → (bins t ≤ y) ⊎ (binSize t y ≤ p)
+-- a bin past the last
+pub bin-refused
+    : (t : Table) (n y p : ℕ) → n ≡ bins t → n ≤ y
     → record { refusal = 7; bucket = 0 } ≡ findAnswer (first (findTests t y p)) t y p
-unfolding findAnswer answer first findTests placePast binPast _or_ if_then_else_
-place-outside t y p (inl l) = rw (le-leb (bins t) y l)
-place-outside t y p (inr l) =
-    ⊎-elim
-    (λ k. rw (lt-leb (bins t) y k, le-leb (binSize t y) p l))
-    (λ k. rw (le-leb (bins t) y k))
-    (below-or y (bins t))
+unfolding findAnswer answer first findTests binPast if_then_else_
+bin-refused t n y p e l = rw (le-leb (bins t) y (omega arith))
 
-pub place-inside
-    : (h : Header) (a : Arrays) → Sound h a → (y p : ℕ) → y < bins (table h a) → p < binSize (table h a) y
-    → findAnswer (holderRefusal (heldAt (table h a) y p)) (table h a) y p
-    ≡ findAnswer (first (findTests (table h a) y p)) (table h a) y p
-unfolding first findTests placePast binPast _or_ if_then_else_ holderRefusal heldAt
-place-inside h a s y p l k =
-    rw (place-searched h a s y p l k .found, lt-leb (bins (table h a)) y l, lt-leb (binSize (table h a) y) p k)
+-- otherwise the search answers
+pub bin-accepted
+    : (t : Table) (n y p : ℕ) → n ≡ bins t → y < n → foundAt t y p ≡ findAnswer (first (findTests t y p)) t y p
+unfolding findAnswer findTests binPast foundAt
+bin-accepted t n y p e l =
+    sym
+    (ap (λ r. answer r (foundAt t y p) (record { refusal = r; bucket = 0 })) clear
+    ∙ found-whole t (rankAt (t .tops) y p) (heldAt t y p))
+  where
+    clear : first (findTests t y p) ≡ foundAt t y p .refusal
+    clear = first-skip (7, binPast t y) (searched (foundAt t y p .refusal)) (lt-leb (bins t) y (omega arith)) ∙ first-searched (foundAt t y p .refusal)

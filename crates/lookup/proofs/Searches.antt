@@ -9,17 +9,18 @@ use lib.Seq.{getD-take}
 use borrow.Author.Tests.{lt-ltb, le-ltb, le-leb, lt-leb}
 use Rattle.model.specs.Basics.{if_then_else_, from, before}
 use Rattle.model.specs.Table.{Interval, interval, Table, firstBin, blockBins, Arrays, table}
-use Rattle.model.specs.Place.{indexOf, blockOf, rank, bin, position, located, locatedRefusal}
-use Rattle.model.specs.Refusal.{first, adjustmentOf, bucketPast}
+use Rattle.model.specs.Place.{rank}
+use Rattle.model.specs.Search.{intervalAt, indexOf, located, placeOf, placeAt}
+use Rattle.model.specs.Refusal.{adjustmentOf, bucketPast}
 use Rattle.model.specs.Sound.{Sound}
-use Rattle.model.specs.Calls.{answer, placeAnswer, placeTests}
 use Rattle.model.specs.declared.table.Header.{Header}
 use Rattle.model.specs.declared.search.Located.{Located}
 use Rattle.model.specs.declared.search.Located.the-variants.{At, Outside}
 use Rattle.model.proofs.Counts.{below-or}
 use Rattle.model.proofs.Intervals.{before-mono, block-at, rank-at, held-others}
 use Rattle.model.proofs.Ranks.{interval-of}
-use Rattle.model.proofs.Rules.{before-some}
+use Rattle.model.proofs.Finds.{entry}
+use Rattle.model.proofs.Tables.{getD-from}
 
 index-from
     : (f : ℕ → Interval) (n i m x : ℕ) → m < n → ((l : ℕ) → l < m → f (i + l) .end ≤ x) → x < f (i + m) .end
@@ -50,9 +51,9 @@ module _ (h : Header) (a : Arrays) (s : Sound h a) where
   pub located-at
       : (i x : ℕ) → i < h .«interval_count» → before (a .ends) i ≤ x → x < getD (a .ends) i 0 → x < h .buckets
       → located (table h a) x ≡ At i (x - getD (a .adjustments) i 0)
-  unfolding located if_then_else_ table before
+  unfolding located bucketPast if_then_else_ table before
   located-at i x l b e inside =
-      rw (lt-ltb x (h .buckets) inside)
+      rw (lt-leb (h .buckets) x inside)
       (ap₂ At
       (index-from
       (λ i. interval (getD (a .ends) i 0) (getD (a .blocks) i 0) (getD (a .adjustments) i 0))
@@ -64,55 +65,42 @@ module _ (h : Header) (a : Arrays) (s : Sound h a) where
       (rank-at h a (s .endsRise) i x l b e))
 
 pub located-outside : (h : Header) (a : Arrays) (x : ℕ) → h .buckets ≤ x → located (table h a) x ≡ Outside
-unfolding located if_then_else_ table
-located-outside h a x l = rw (le-ltb x (h .buckets) l)
+unfolding located bucketPast if_then_else_ table
+located-outside h a x l = rw (le-leb (h .buckets) x l)
 
 -- WHAT THE ANSWER OF THE SEARCH SAYS
 
--- bucket x lies in interval i and has rank r
-pub record Reached (h : Header) (a : Arrays) (x i r : ℕ) : Type 0 where
-  pub inside : x < h .buckets
-  pub below : i < h .«interval_count»
-  pub block : blockOf (table h a) x ≡ getD (a .blocks) i 0
-  pub blockBelow : getD (a .blocks) i 0 < h .«block_count»
-  pub ranked : rank (table h a) x ≡ r
+-- interval i of a table, as it is lent
+pub interval-kept : (h : Header) (a : Arrays) (i : ℕ) → i < h .«interval_count» → intervalAt (table h a) i .block ≡ getD (a .blocks) i 0
+unfolding intervalAt table
+interval-kept h a i l =
+    ap (λ v. v .block) (getD-from (entry a) 0 (h .«interval_count») i (interval 0 0 0) l)
+    ∙ ap (λ i. getD (a .blocks) i 0) (zero-add i)
 
-pub reached
-    : (h : Header) (a : Arrays) → Sound h a → (x i r : ℕ) → located (table h a) x ≡ At i r → Reached h a x i r
+-- an interval that was found
+pub record Reached (h : Header) (a : Arrays) (i : ℕ) : Type 0 where
+  pub below : i < h .«interval_count»
+  pub block : intervalAt (table h a) i .block ≡ getD (a .blocks) i 0
+  pub blockBelow : getD (a .blocks) i 0 < h .«block_count»
+
+pub reached : (h : Header) (a : Arrays) → Sound h a → (x i r : ℕ) → located (table h a) x ≡ At i r → Reached h a i
 reached h a s x i r e =
     ⊎-elim
     (λ inside.
     let (m, below, b, d) = interval-of h a s x inside in
     let found : At m (x - getD (a .adjustments) m 0) ≡ At i r = sym (located-at h a s m x below b d inside) ∙ e in
     let same : m ≡ i = cc in
-    let ranked : x - getD (a .adjustments) m 0 ≡ r = cc in
-    record {
-      inside = inside;
-      below = omega arith;
-      block = block-at h a (s .endsRise) m x below b d ∙ ap (λ k. getD (a .blocks) k 0) same;
-      blockBelow = s .blocksBelow i (omega arith);
-      ranked = rank-at h a (s .endsRise) m x below b d ∙ ranked;
-    })
+    let here : i < h .«interval_count» = omega arith in
+    record { below = here; block = interval-kept h a i here; blockBelow = s .blocksBelow i here })
     (λ past.
     let clash : Outside ≡ At i r = sym (located-outside h a x past) ∙ e in
     let never : _≡_ {A = ℕ} 0 1 = cc in
     absurd (omega arith))
     (below-or x (h .buckets))
 
-pub unreached : (h : Header) (a : Arrays) → Sound h a → (x : ℕ) → located (table h a) x ≡ Outside → h .buckets ≤ x
-unreached h a s x e =
-    ⊎-elim
-    (λ inside.
-    let (m, below, b, d) = interval-of h a s x inside in
-    let clash : At m (x - getD (a .adjustments) m 0) ≡ Outside = sym (located-at h a s m x below b d inside) ∙ e in
-    let never : _≡_ {A = ℕ} 0 1 = cc in
-    absurd (omega arith))
-    (λ past. past)
-    (below-or x (h .buckets))
-
 -- PLACING
 
-module _ (h : Header) (a : Arrays) (s : Sound h a) where
+module _ (h : Header) (a : Arrays) where
   -- a top of the table is the lent one
   pub top-kept : (j : ℕ) → j < h .«block_count» → getD (table h a .tops) j 0 ≡ getD (a .tops) j 0
   unfolding table
@@ -130,35 +118,23 @@ module _ (h : Header) (a : Arrays) (s : Sound h a) where
 
   -- the block of interval i has first bin f
   pub place-at
-      : (x i r f : ℕ) → Reached h a x i r → f ≡ before (a .tops) (getD (a .blocks) i 0)
-      → placeAnswer (locatedRefusal (located (table h a) x)) (table h a) x
+      : (x i r f : ℕ) → located (table h a) x ≡ At i r → Reached h a i → f ≡ before (a .tops) (getD (a .blocks) i 0)
+      → placeAt (table h a) x
       ≡ record {
         refusal = 0;
         bin = f + r % (getD (a .tops) (getD (a .blocks) i 0) 0 - f);
         position = r / (getD (a .tops) (getD (a .blocks) i 0) 0 - f);
       }
-  unfolding placeAnswer answer locatedRefusal located if_then_else_ bin position table
-  place-at x i r f found e =
+  unfolding placeAt placeOf
+  place-at x i r f e found g =
       rw (
-        lt-ltb x (h .buckets) (found .inside),
+        e,
         found .block,
-        found .ranked,
         bins-kept (getD (a .blocks) i 0) (found .blockBelow),
         first-kept (getD (a .blocks) i 0) (omega arith),
-        e,
+        g,
       )
 
-  pub place-past
-      : (x : ℕ) → h .buckets ≤ x
-      → placeAnswer (locatedRefusal (located (table h a) x)) (table h a) x ≡ record { refusal = 6; bin = 0; position = 0 }
-  unfolding placeAnswer answer locatedRefusal located if_then_else_ table
-  place-past x l = rw (le-ltb x (h .buckets) l)
-
--- the search's refusal number is that of placing's test
-pub located-refusal : (t : Table) (x : ℕ) → locatedRefusal (located t x) ≡ first (placeTests t x)
-unfolding locatedRefusal located first placeTests bucketPast if_then_else_
-located-refusal t x =
-    ⊎-elim
-    (λ l. rw (lt-ltb x (t .buckets) l, lt-leb (t .buckets) x l))
-    (λ l. rw (le-ltb x (t .buckets) l, le-leb (t .buckets) x l))
-    (below-or x (t .buckets))
+pub place-past : (t : Table) (x : ℕ) → located t x ≡ Outside → placeAt t x ≡ record { refusal = 6; bin = 0; position = 0 }
+unfolding placeAt placeOf
+place-past t x e = rw e

@@ -1,13 +1,13 @@
 // What reads a sound table. Nothing here checks it again.
-ghost use Prim.Native.Nat.{_<_, _≤_};
+ghost use Prim.Native.Nat.{_+_, _^_, _<_, _≤_};
 ghost use mathlib.Core.Logic.{_⊎_};
 ghost use mathlib.Core.Path.{_≡_};
 ghost use lib.ListN.{length, take};
 ghost use Rattle.model.specs.Lent.{LentSound, tableGiven, tableNow};
 ghost use Rattle.model.specs.Table.{bins as binsOf};
-ghost use Rattle.model.specs.Place.{located, locatedRefusal, blockOfBin, binSize, holder, holderRefusal, heldAt};
+ghost use Rattle.model.specs.Search.{located, placeAt, blockOfBin, holder, foundAt};
 ghost use Rattle.model.specs.Refusal.{first};
-ghost use Rattle.model.specs.Calls.{placeAnswer, findAnswer, findTests, binSizeAnswer, binSizeTests};
+ghost use Rattle.model.specs.Calls.{findAnswer, findTests, binSizeAnswer, binSizeTests};
 ghost use Rattle.lookup.specs.Search.{Among};
 use model::reply::BinSizeReply;
 use model::reply::FindReply;
@@ -96,14 +96,7 @@ pub fn placed(
     bucket: u32,
 ) -> PlaceReply
     requires { ⌜ LentSound h tops ends blocks adjustments ⌝ }
-    ensures { λ r.
-        ⌜
-        r
-        ≡ placeAnswer
-        (locatedRefusal (located (tableGiven h tops ends blocks adjustments) bucket))
-        (tableGiven h tops ends blocks adjustments)
-        bucket
-        ⌝ }
+    ensures { λ r. ⌜ r ≡ placeAt (tableGiven h tops ends blocks adjustments) bucket ⌝ }
 {
     let Located::At { interval, rank } = locate(h, tops, ends, blocks, adjustments, bucket) else {
         return PlaceReply {
@@ -176,7 +169,7 @@ fn block_of_bin(tops: &[u32], count: usize, bin: u32) -> usize
     block
 }
 
-// The first interval of a block whose ranks include the given one.
+// The first interval of a block whose ranks include the given one, which may be past every bucket's.
 fn hold(
     h: Header,
     tops: &[u32],
@@ -184,16 +177,11 @@ fn hold(
     blocks: &[u32],
     adjustments: &[u32],
     block: u32,
-    rank: u32,
+    rank: u64,
 ) -> Holder
     requires { ⌜ LentSound h tops ends blocks adjustments ⌝ }
-    requires { ⌜ rank < h .buckets ⌝ }
-    ensures { λ r.
-        ⌜
-        r
-        ≡ holder (tableGiven h tops ends blocks adjustments .intervals)
-        0 0 block rank
-        ⌝ }
+    requires { ⌜ rank + 2 ^ 32 ≤ 2 ^ 64 ⌝ }
+    ensures { λ r. ⌜ r ≡ holder (tableGiven h tops ends blocks adjustments .intervals) 0 0 block rank ⌝ }
 {
     let count = h.interval_count as usize;
     let mut i = 0;
@@ -202,8 +190,8 @@ fn hold(
         if count <= i {
             break Holder::Nothing;
         }
-        let bucket = rank + adjustments[i];
-        let end = ends[i];
+        let bucket = rank + adjustments[i] as u64;
+        let end = ends[i] as u64;
         if blocks[i] == block {
             if start <= bucket {
                 if bucket < end {
@@ -217,7 +205,7 @@ fn hold(
     found
 }
 
-// The bucket at a position below the bin's size.
+// The bucket at a position of a bin below n, or refusal 7.
 fn bucket_at(
     h: Header,
     tops: &[u32],
@@ -229,20 +217,11 @@ fn bucket_at(
 ) -> FindReply
     requires { ⌜ LentSound h tops ends blocks adjustments ⌝ }
     requires { ⌜ bin < binsOf (tableNow h tops ends blocks adjustments) ⌝ }
-    requires { ⌜ position < binSize (tableNow h tops ends blocks adjustments) bin ⌝ }
-    ensures { λ r.
-        ⌜
-        r
-        ≡ findAnswer
-        (holderRefusal
-        (heldAt (tableGiven h tops ends blocks adjustments) bin position))
-        (tableGiven h tops ends blocks adjustments)
-        bin position
-        ⌝ }
+    ensures { λ r. ⌜ r ≡ foundAt (tableGiven h tops ends blocks adjustments) bin position ⌝ }
 {
     let block = block_of_bin(tops, h.block_count as usize, bin);
     let low = before(tops, block);
-    let rank = position * (tops[block] - low) + (bin - low);
+    let rank = position as u64 * (tops[block] - low) as u64 + (bin - low) as u64;
     let Holder::In(i) = hold(h, tops, ends, blocks, adjustments, block as u32, rank) else {
         return FindReply {
             refusal: 7,
@@ -251,7 +230,7 @@ fn bucket_at(
     };
     FindReply {
         refusal: 0,
-        bucket: rank + adjustments[i],
+        bucket: (rank + adjustments[i] as u64) as u32,
     }
 }
 
@@ -269,20 +248,11 @@ pub fn found(
     ensures { λ r.
         ⌜
         r
-        ≡ findAnswer
-        (first (findTests (tableGiven h tops ends blocks adjustments) bin position))
-        (tableGiven h tops ends blocks adjustments)
-        bin position
+        ≡ findAnswer (first (findTests (tableGiven h tops ends blocks adjustments) bin position))
+        (tableGiven h tops ends blocks adjustments) bin position
         ⌝ }
 {
-    let size = sized(h, tops, ends, blocks, adjustments, bin);
-    if size.refusal != 0 {
-        return FindReply {
-            refusal: 7,
-            bucket: 0,
-        };
-    }
-    if size.buckets <= position {
+    if bin_count(h, tops, ends, blocks, adjustments) <= bin {
         return FindReply {
             refusal: 7,
             bucket: 0,

@@ -2,9 +2,10 @@
 use mathlib.Core.Path.{refl}
 use Rattle.model.specs.Basics.{if_then_else_, _and_, _or_, bit, sum, count, all, from, joined, before}
 use Rattle.model.specs.Table.{bins, shape, firstBin, blockBins, table, header, over, written}
-use Rattle.model.specs.Place.{intervalOf, indexOf, blockOf, rank, bin, position, held, others, binSize, located, locatedRefusal, blockOfBin, rankAt, includes, holder, holderRefusal, holderBucket, bucketAt}
+use Rattle.model.specs.Place.{intervalOf, blockOf, rank, bin, position, held, others, binSize}
+use Rattle.model.specs.Search.{intervalAt, indexOf, located, placeOf, placeAt, blockOfBin, rankAt, includes, holder, foundOf, heldAt, foundAt}
 use Rattle.model.specs.Due.{due, dueOfBins, dueOfBlock}
-use Rattle.model.specs.Refusal.{first, outside, rises, headerOutside, arraysShort, topsWrong, endsWrong, blocksWrong, holdingsWrong, adjustmentOf, adjustmentsWrong, sizeOutside, fewBuckets, shrinks, unchanged, blocksFull, bucketPast, binPast, placePast, roomShort}
+use Rattle.model.specs.Refusal.{first, searched, outside, rises, headerOutside, arraysShort, topsWrong, endsWrong, blocksWrong, holdingsWrong, adjustmentOf, adjustmentsWrong, sizeOutside, fewBuckets, shrinks, unchanged, blocksFull, bucketPast, binPast, roomShort}
 use Rattle.model.specs.Initial.{initial}
 use Rattle.model.specs.Expansion.{newTops, has, dueAfter, someFall, lastBlock, lengthened, gain, pieces, filled, plan, parts, planFor, parted, movedAfter, extended, drained, expanded, differs, moved}
 use Rattle.model.specs.Relocations.{row, rowIf, rows, page}
@@ -15,10 +16,10 @@ use Rattle.model.specs.Claims.{Figures, Listing}
 
 pub figures : Figures
 unfolding if_then_else_ _and_ _or_ bit sum count all from joined before bins shape firstBin blockBins table header
-    over written intervalOf indexOf blockOf rank bin position held others binSize located locatedRefusal blockOfBin
-    rankAt includes holder holderRefusal holderBucket bucketAt due dueOfBins dueOfBlock first outside rises
+    over written intervalOf indexOf blockOf rank bin position held others binSize intervalAt located placeOf placeAt
+    blockOfBin rankAt includes holder foundOf heldAt foundAt due dueOfBins dueOfBlock first searched outside rises
     headerOutside arraysShort topsWrong endsWrong blocksWrong holdingsWrong adjustmentOf adjustmentsWrong sizeOutside
-    fewBuckets shrinks unchanged blocksFull bucketPast binPast placePast roomShort initial newTops has dueAfter someFall
+    fewBuckets shrinks unchanged blocksFull bucketPast binPast roomShort initial newTops has dueAfter someFall
     lastBlock lengthened gain pieces filled plan parts planFor parted movedAfter extended drained expanded differs moved
     row rowIf rows page answer tableTests sizeTests growthTests intervalsFull tableReply arraysAfter initialRefusal
     initialReply initialArrays expandRefusal expandReply expandArrays relocationsAnswer bufferAfter orderTests rowsOf
@@ -31,10 +32,10 @@ figures = refl
 
 pub listing : Listing
 unfolding if_then_else_ _and_ _or_ bit sum count all from joined before bins shape firstBin blockBins table header
-    over written intervalOf indexOf blockOf rank bin position held others binSize located locatedRefusal blockOfBin
-    rankAt includes holder holderRefusal holderBucket bucketAt due dueOfBins dueOfBlock first outside rises
+    over written intervalOf indexOf blockOf rank bin position held others binSize intervalAt located placeOf placeAt
+    blockOfBin rankAt includes holder foundOf heldAt foundAt due dueOfBins dueOfBlock first searched outside rises
     headerOutside arraysShort topsWrong endsWrong blocksWrong holdingsWrong adjustmentOf adjustmentsWrong sizeOutside
-    fewBuckets shrinks unchanged blocksFull bucketPast binPast placePast roomShort initial newTops has dueAfter someFall
+    fewBuckets shrinks unchanged blocksFull bucketPast binPast roomShort initial newTops has dueAfter someFall
     lastBlock lengthened gain pieces filled plan parts planFor parted movedAfter extended drained expanded differs moved
     row rowIf rows page answer tableTests sizeTests growthTests intervalsFull tableReply arraysAfter initialRefusal
     initialReply initialArrays expandRefusal expandReply expandArrays relocationsAnswer bufferAfter orderTests rowsOf

@@ -2,33 +2,33 @@
 -- Assumes nothing.
 use Prim.Native.Nat.{ℕ, zero, suc, _+_, _-_, _*_, _/_, _%_, _≤_, _<_}
 use mathlib.Core.Path.{_≡_, refl, sym, _∙_, ap, ap₂}
-use mathlib.Core.Logic.{⊎-elim}
+use mathlib.Core.Logic.{_⊎_, inl, inr, ⊎-elim}
 use mathlib.Core.Bool.{true, false≢true}
 use mathlib.Core.List.{List}
 use native.Mathlib.Nat.{zero-add, div-add-mod', mod-lt, div-eq-of-lt, mod-eq-of-lt, mul-add-div-right, mul-add-mod-self-right}
 use native.Mathlib.Omega.{arith}
 use lib.ListN.{getD}
-use borrow.Author.Tests.{eq-eqb, le-leb, lt-ltb, eqb-true, leb-true, ltb-true}
-use Rattle.model.specs.Basics.{if_then_else_, from, before}
+use borrow.Author.Tests.{eq-eqb, le-leb, lt-leb, lt-ltb, eqb-true, leb-true, ltb-true}
+use Rattle.model.specs.Basics.{if_then_else_, _or_, from, before}
 use Rattle.model.specs.Table.{bins, Interval, interval, firstBin, blockBins, Arrays, table}
-use Rattle.model.specs.Place.{
-  blockOf,
-  rank,
-  bin,
-  position,
-  held,
-  binSize,
+use Rattle.model.specs.Place.{blockOf, rank, bin, position, held, binSize}
+use Rattle.model.specs.Refusal.{first, searched, binPast, placePast}
+use Rattle.model.specs.Search.{
+  intervalAt,
   blockOfBin,
   rankAt,
   includes,
   holder,
-  holderBucket,
+  foundOf,
+  heldAt,
+  foundAt,
   bucketAt,
 }
+use Rattle.model.specs.Calls.{findTests}
 use Rattle.model.specs.Sound.{Sound}
-use Rattle.model.specs.TableClaims.{FindPlaced, PlaceFound}
+use Rattle.model.specs.TableClaims.{FindPlaced, PlaceFound, FindRefused}
 use Rattle.model.specs.declared.table.Header.{Header}
-use Rattle.model.specs.declared.search.Holder.the-variants.{In}
+use Rattle.model.specs.declared.search.Holder.the-variants.{In, Nothing}
 use Rattle.model.proofs.Counts.{bit-cases, below-or, and-both, and-left, and-right}
 use Rattle.model.proofs.Intervals.{before-mono, block-at}
 use Rattle.model.proofs.Ranks.{interval-of, rank-adjusted, block-below, rank-before, rank-once, rank-reached}
@@ -64,42 +64,83 @@ includes-true a i j r e =
       end = ltb-true _ _ (and-right _ _ e);
     }
 
--- where one of the intervals includes the rank, the search answers one that does
-holder-from
-    : (a : Arrays) (j r n i k : ℕ) → i ≤ k → k < i + n → Including a k j r
-    → (m : ℕ) × (m < i + n) × Including a m j r × (holder (from (entry a) i n) (before (a .ends) i) i j r ≡ In m)
+-- the search answers an interval that includes the rank, or that there is none where none does
+abbrev Answered : Arrays → ℕ → ℕ → ℕ → ℕ → Type 0
+Answered a j r n i =
+    ((holder (from (entry a) i n) (before (a .ends) i) i j r ≡ Nothing)
+    × ((k : ℕ) → i ≤ k → k < i + n → Including a k j r → ⊥))
+    ⊎ ((m : ℕ) × (m < i + n) × Including a m j r × (holder (from (entry a) i n) (before (a .ends) i) i j r ≡ In m))
+
+answered-from : (a : Arrays) (j r n i : ℕ) → Answered a j r n i
 unfolding holder from if_then_else_ before
-holder-from a j r zero i k le lt c = absurd (omega arith)
-holder-from a j r (suc n) i k le lt c =
+answered-from a j r zero i = inl (refl, λ k le lt c. omega arith)
+answered-from a j r (suc n) i =
     ⊎-elim
-    (λ t. (i, omega arith, includes-true a i j r (t .0), rw (t .0)))
+    (λ t. inr (i, omega arith, includes-true a i j r (t .0), rw (t .0)))
     (λ t.
     ⊎-elim
-    (λ l.
-    let (m, below, d, e) = holder-from a j r n (suc i) k l (omega arith) c in
-    (m, omega arith, d, rw (t .0) e))
-    (λ l.
-    let same : k ≡ i = omega arith in
-    absurd (false≢true (sym (t .0) ∙ includes-holds a i j r (rw same at c))))
-    (below-or i k))
+    (λ q. inl (
+      rw (t .0) (q .0),
+      λ k le lt c.
+      ⊎-elim
+      (λ l. q .1 k l (omega arith) c)
+      (λ l.
+      let same : k ≡ i = omega arith in
+      false≢true (sym (t .0) ∙ includes-holds a i j r (rw same at c)))
+      (below-or i k),
+    ))
+    (λ q. let (m, below, d, e) = q in inr (m, omega arith, d, rw (t .0) e))
+    (answered-from a j r n (suc i)))
     (bit-cases (includes (before (a .ends) i) (entry a i) j r))
 
--- the same of a table's intervals, and the bucket that the answer gives
-holder-answers
-    : (h : Header) (a : Arrays) (j r i : ℕ) → i < h .«interval_count» → Including a i j r
-    → (m : ℕ) × (m < h .«interval_count») × Including a m j r × (holder (table h a .intervals) 0 0 j r ≡ In m)
-unfolding table before
-holder-answers h a j r i l c =
-    let (m, below, d, e) = holder-from a j r (h .«interval_count») 0 i (omega arith) (omega arith) c in
-    (m, omega arith, d, e)
+module _ (h : Header) (a : Arrays) (j r : ℕ) where
+  -- where one of a table's intervals includes the rank, the search answers one that does
+  holder-answers
+      : (i : ℕ) → i < h .«interval_count» → Including a i j r
+      → (m : ℕ) × (m < h .«interval_count») × Including a m j r × (holder (table h a .intervals) 0 0 j r ≡ In m)
+  unfolding table before
+  holder-answers i l c =
+      ⊎-elim
+      (λ q. absurd (q .1 i (omega arith) (omega arith) c))
+      (λ q. let (m, below, d, e) = q in (m, omega arith, d, e))
+      (answered-from a j r (h .«interval_count») 0)
 
-holder-bucket
+  -- an interval that it answers includes the rank
+  pub holder-in
+      : (i : ℕ) → holder (table h a .intervals) 0 0 j r ≡ In i → (i < h .«interval_count») × Including a i j r
+  unfolding table before
+  holder-in i e =
+      ⊎-elim
+      (λ q.
+      let clash : Nothing ≡ In i = sym (q .0) ∙ e in
+      let never : _≡_ {A = ℕ} 0 1 = cc in
+      absurd (omega arith))
+      (λ q.
+      let (m, below, d, f) = q in
+      let found : In m ≡ In i = sym f ∙ e in
+      let same : m ≡ i = cc in
+      rw (← same) (omega arith, d))
+      (answered-from a j r (h .«interval_count») 0)
+
+  -- where none includes it, the search says so
+  holder-none
+      : ((i : ℕ) → i < h .«interval_count» → Including a i j r → ⊥) → holder (table h a .intervals) 0 0 j r ≡ Nothing
+  unfolding table before
+  holder-none none =
+      ⊎-elim
+      (λ q. q .0)
+      (λ q. let (m, below, d, e) = q in absurd (none m (omega arith) d))
+      (answered-from a j r (h .«interval_count») 0)
+
+-- the bucket that an answer gives
+pub found-in
     : (h : Header) (a : Arrays) (r m : ℕ) → m < h .«interval_count»
-    → holderBucket (table h a .intervals) r (In m) ≡ r + getD (a .adjustments) m 0
-unfolding table holderBucket
-holder-bucket h a r m l =
-    ap (λ v. r + v .adjustment) (getD-from (entry a) 0 (h .«interval_count») m (interval 0 0 0) l)
-    ∙ ap (λ m. r + getD (a .adjustments) m 0) (zero-add m)
+    → foundOf (table h a) r (In m) ≡ record { refusal = 0; bucket = r + getD (a .adjustments) m 0 }
+unfolding table foundOf intervalAt
+found-in h a r m l =
+    ap (λ v. record { refusal = 0; bucket = r + v .adjustment })
+    (getD-from (entry a) 0 (h .«interval_count») m (interval 0 0 0) l)
+    ∙ ap (λ m. record { refusal = 0; bucket = r + getD (a .adjustments) m 0 }) (zero-add m)
 
 module _ (h : Header) (a : Arrays) (s : Sound h a) where
   -- an interval that includes a bucket's rank is the bucket's own
@@ -122,9 +163,9 @@ module _ (h : Header) (a : Arrays) (s : Sound h a) where
   -- the search finds the bucket of a rank
   holder-finds
       : (x : ℕ) → x < h .buckets
-      → holderBucket (table h a .intervals) (rank (table h a) x)
+      → foundOf (table h a) (rank (table h a) x)
       (holder (table h a .intervals) 0 0 (blockOf (table h a) x) (rank (table h a) x))
-      ≡ x
+      ≡ record { refusal = 0; bucket = x }
   holder-finds x l =
       let r = rank (table h a) x in
       let (i, k, b, e) = interval-of h a s x l in
@@ -132,21 +173,30 @@ module _ (h : Header) (a : Arrays) (s : Sound h a) where
       let own : Including a i (blockOf (table h a) x) r =
       record { block = sym (block-at h a (s .endsRise) i x k b e); start = omega arith; end = omega arith } in
       let (m, below, c, found) = holder-answers h a (blockOf (table h a) x) r i k own in
-      ap (holderBucket (table h a .intervals) r) found ∙ holder-bucket h a r m below ∙ including-own x m l below c
+      ap (foundOf (table h a) r) found
+      ∙ found-in h a r m below
+      ∙ ap (λ x. record { refusal = 0; bucket = x }) (including-own x m l below c)
 
   -- PLACES AND BUCKETS
 
-  -- the bucket at a place is the one of the place's block and rank
-  bucket-at
+  -- finding at a place answers the bucket of the place's block and rank
+  found-at
       : (x j m p : ℕ) → x < h .buckets → j < h .«block_count» → m < blockBins (table h a .tops) j
       → blockOf (table h a) x ≡ j → rank (table h a) x ≡ p * blockBins (table h a .tops) j + m
-      → bucketAt (table h a) (firstBin (table h a .tops) j + m) p ≡ x
-  unfolding bucketAt rankAt
-  bucket-at x j m p l below k b r =
+      → foundAt (table h a) (firstBin (table h a .tops) j + m) p ≡ record { refusal = 0; bucket = x }
+  unfolding foundAt heldAt rankAt
+  found-at x j m p l below k b r =
       let y = firstBin (table h a .tops) j + m in
       let place : m ≡ y - firstBin (table h a .tops) j = omega arith in
       let block : blockOfBin (table h a .tops) y ≡ j = bin-within h a s j m below k .0 in
       rw (block, ← place, ← r, ← b) (holder-finds x l)
+
+  bucket-at
+      : (x j m p : ℕ) → x < h .buckets → j < h .«block_count» → m < blockBins (table h a .tops) j
+      → blockOf (table h a) x ≡ j → rank (table h a) x ≡ p * blockBins (table h a .tops) j + m
+      → bucketAt (table h a) (firstBin (table h a .tops) j + m) p ≡ x
+  unfolding bucketAt
+  bucket-at x j m p l below k b r = ap (λ z. z .bucket) (found-at x j m p l below k b r)
 
 -- the place of a bucket has its block and rank
 pub find-placed : FindPlaced
@@ -181,52 +231,65 @@ place-found h a s y p l k =
       omega (arith, mul-add-div-right (some-bins h a s j below) p m, div-eq-of-lt inside),
     )
 
--- what the search for the rank of such a place answers
-pub record Searched (h : Header) (a : Arrays) (y p : ℕ) : Type 0 where
-  pub block : blockOfBin (table h a .tops) y < h .«block_count»
-  pub first : firstBin (table h a .tops) (blockOfBin (table h a .tops) y) ≤ y
-  pub place : ℕ
-  pub below : place < h .«interval_count»
-  pub found
-      : holder (table h a .intervals) 0 0 (blockOfBin (table h a .tops) y) (rankAt (table h a .tops) y p) ≡ In place
-  pub bucket : bucketAt (table h a) y p ≡ rankAt (table h a .tops) y p + getD (a .adjustments) place 0
-  pub inside : rankAt (table h a .tops) y p + getD (a .adjustments) place 0 < h .buckets
+-- THE TEST OF A PLACE
 
 -- the block and rank of a place, as numbers
 rank-at-place
     : (tops : List ℕ) (y p j m : ℕ) → blockOfBin tops y ≡ j → y ≡ firstBin tops j + m
-    → (rankAt tops y p ≡ p * blockBins tops j + m) × (firstBin tops (blockOfBin tops y) ≤ y)
+    → rankAt tops y p ≡ p * blockBins tops j + m
 unfolding rankAt
-rank-at-place tops y p j m block e = rw block (omega arith, omega arith)
+rank-at-place tops y p j m block e = rw block (omega arith)
 
-pub place-searched
-    : (h : Header) (a : Arrays) → Sound h a
-    → (y p : ℕ) → y < bins (table h a) → p < binSize (table h a) y → Searched h a y p
-unfolding bucketAt
-place-searched h a s y p l k =
-    let t = table h a in
-    let (j, m, below, inside, e) = bin-block h a s y l in
-    let size = ap (binSize t) e ∙ bin-size h a s j m below inside in
-    let (x, under, owner, ranked) =
-    rank-reached h a s j (p * blockBins (t .tops) j + m)
-    (due-below (held t j (h .buckets)) (blockBins (t .tops) j) m inside p (omega arith)) in
-    let block : blockOfBin (t .tops) y ≡ j = ap (blockOfBin (t .tops)) e ∙ bin-within h a s j m below inside .0 in
-    let (same, first) = rank-at-place (t .tops) y p j m block e in
-    let r : rankAt (t .tops) y p ≡ rank t x = same ∙ sym ranked in
-    let b : blockOfBin (t .tops) y ≡ blockOf t x = block ∙ sym owner in
-    let (i, c, d, f) = interval-of h a s x under in
-    let whole = rank-adjusted h a s i x c d f in
-    let own : Including a i (blockOf t x) (rank t x) =
-    record { block = sym (block-at h a (s .endsRise) i x c d f); start = omega arith; end = omega arith } in
-    let (n, under′, including, found) = holder-answers h a (blockOf t x) (rank t x) i c own in
-    let searched : holder (t .intervals) 0 0 (blockOfBin (t .tops) y) (rankAt (t .tops) y p) ≡ In n =
-    ap₂ (λ b r. holder (t .intervals) 0 0 b r) b r ∙ found in
-    record {
-      block = omega arith;
-      first = first;
-      place = n;
-      below = under′;
-      found = searched;
-      bucket = ap (holderBucket (t .intervals) (rankAt (t .tops) y p)) searched ∙ holder-bucket h a (rankAt (t .tops) y p) n under′;
-      inside = omega (arith, including-own h a s x n under under′ including);
-    }
+module _ (h : Header) (a : Arrays) (s : Sound h a) (y p : ℕ) (l : y < bins (table h a)) where
+  -- a position below the bin's size has a bucket
+  found-inside : p < binSize (table h a) y → foundAt (table h a) y p .refusal ≡ 0
+  found-inside k =
+      let t = table h a in
+      let (j, m, below, inside, e) = bin-block h a s y l in
+      let size = ap (binSize t) e ∙ bin-size h a s j m below inside in
+      let (x, under, owner, ranked) =
+      rank-reached h a s j (p * blockBins (t .tops) j + m)
+      (due-below (held t j (h .buckets)) (blockBins (t .tops) j) m inside p (omega arith)) in
+      ap (λ y. foundAt t y p .refusal) e
+      ∙ ap (λ z. z .refusal) (found-at h a s x j m p under below inside owner ranked)
+
+  -- at one that is not, no interval includes the rank
+  found-outside : binSize (table h a) y ≤ p → foundAt (table h a) y p .refusal ≡ 7
+  unfolding foundAt heldAt foundOf before
+  found-outside k =
+      let t = table h a in
+      let (j, m, below, inside, e) = bin-block h a s y l in
+      let size = ap (binSize t) e ∙ bin-size h a s j m below inside in
+      let block : blockOfBin (t .tops) y ≡ j = ap (blockOfBin (t .tops)) e ∙ bin-within h a s j m below inside .0 in
+      let ranked = rank-at-place (t .tops) y p j m block e in
+      let none : (i : ℕ) → i < h .«interval_count» → Including a i (blockOfBin (t .tops) y) (rankAt (t .tops) y p) → ⊥ =
+      λ i q c.
+      let x = rankAt (t .tops) y p + getD (a .adjustments) i 0 in
+      let under : x < h .buckets =
+      omega (
+        arith,
+        c .end,
+        before-mono (a .ends) (h .«interval_count») (s .endsRise) (h .«interval_count») (suc i) q (omega arith),
+        s .lastEnd,
+      ) in
+      let owner : blockOf t x ≡ j = block-at h a (s .endsRise) i x q (c .start) (c .end) ∙ c .block ∙ block in
+      let reached : rank t x < held t j (h .buckets) = rw owner at (rank-before h a s x (h .buckets) under under) in
+      omega (
+        arith,
+        below-due (held t j (h .buckets)) (blockBins (t .tops) j) m inside p
+            (omega (arith, rank-adjusted h a s i x q (c .start) (c .end))),
+      ) in
+      rw (holder-none h a (blockOfBin (t .tops) y) (rankAt (t .tops) y p) none)
+
+-- so finding's tests are document 01's rule 7
+pub find-refused : FindRefused
+unfolding findTests searched first binPast placePast _or_ if_then_else_
+find-refused h a s y p =
+    ⊎-elim
+    (λ l.
+    ⊎-elim
+    (λ k. rw (lt-leb (bins (table h a)) y l, lt-leb (binSize (table h a) y) p k, found-inside h a s y p l k))
+    (λ k. rw (lt-leb (bins (table h a)) y l, le-leb (binSize (table h a) y) p k, found-outside h a s y p l k))
+    (below-or p (binSize (table h a) y)))
+    (λ l. rw (le-leb (bins (table h a)) y l))
+    (below-or y (bins (table h a)))

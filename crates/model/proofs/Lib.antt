@@ -10,6 +10,7 @@ pub mod Rooms
 pub mod Ranks
 pub mod Places
 pub mod Finds
+pub mod Searches
 pub mod Soundness
 pub mod Rules
 pub mod Holdings

@@ -28,7 +28,8 @@ use lib.Seq.{getD-take, length-take-le}
 use borrow.Author.Tests.{lt-ltb, le-ltb}
 use Rattle.model.specs.Basics.{if_then_else_, bit, count, before}
 use Rattle.model.specs.Table.{Shape, bins, shape, firstBin, blockBins, Arrays, table}
-use Rattle.model.specs.Place.{blockOf, rank, bin, held, binSize, blockOfBin}
+use Rattle.model.specs.Place.{blockOf, rank, bin, held, binSize}
+use Rattle.model.specs.Search.{blockOfBin}
 use Rattle.model.specs.Due.{due, dueOfBins, dueOfBlock}
 use Rattle.model.specs.Claims.{dueBelow}
 use Rattle.model.specs.Sound.{Sound}

@@ -8,7 +8,7 @@ use lib.Dec.{ltb, eqb}
 use Rattle.model.specs.Basics.{if_then_else_, _or_, joined}
 use Rattle.model.specs.Limits.{maxIntervals, maxExpansions}
 use Rattle.model.specs.Table.{Shape, Table, Arrays, table, header, over, written}
-use Rattle.model.specs.Place.{bin, position, bucketAt, binSize}
+use Rattle.model.specs.Place.{binSize}
 use Rattle.model.specs.Refusal.{
   Test,
   first,
@@ -24,11 +24,11 @@ use Rattle.model.specs.Refusal.{
   shrinks,
   unchanged,
   blocksFull,
-  bucketPast,
   binPast,
-  placePast,
+  searched,
   roomShort,
 }
+use Rattle.model.specs.Search.{placeAt, foundAt}
 use Rattle.model.specs.Initial.{initial}
 use Rattle.model.specs.Expansion.{expanded, moved}
 use Rattle.model.specs.Relocations.{rows, page}
@@ -144,23 +144,20 @@ relocationsRows h a s q buffer = bufferAfter (relocationsRefusal h a s q) (rowsO
 -- A CALL THAT READS A SOUND TABLE t, with refusal r
 
 unfoldable pub placeAnswer : ℕ → Table → ℕ → PlaceReply
-placeAnswer r t x =
-    answer r
-    (record { refusal = 0; bin = bin t x; position = position t x })
-    (record { refusal = r; bin = 0; position = 0 })
+placeAnswer r t x = answer r (placeAt t x) (record { refusal = r; bin = 0; position = 0 })
 
 unfoldable pub findAnswer : ℕ → Table → ℕ → ℕ → FindReply
-findAnswer r t y p = answer r (record { refusal = 0; bucket = bucketAt t y p }) (record { refusal = r; bucket = 0 })
+findAnswer r t y p = answer r (foundAt t y p) (record { refusal = r; bucket = 0 })
 
 unfoldable pub binSizeAnswer : ℕ → Table → ℕ → BinSizeReply
 binSizeAnswer r t y = answer r (record { refusal = 0; buckets = binSize t y }) (record { refusal = r; buckets = 0 })
 
--- their tests
+-- their tests: placing and finding end with what the search answers
 unfoldable pub placeTests : Table → ℕ → List Test
-placeTests t x = (6, bucketPast t x) ∷ []
+placeTests t x = searched (placeAt t x .refusal)
 
 unfoldable pub findTests : Table → ℕ → ℕ → List Test
-findTests t y p = (7, placePast t y p) ∷ []
+findTests t y p = (7, binPast t y) ∷ searched (foundAt t y p .refusal)
 
 unfoldable pub binSizeTests : Table → ℕ → List Test
 binSizeTests t y = (7, binPast t y) ∷ []

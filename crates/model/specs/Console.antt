@@ -8,7 +8,7 @@ use lib.ListN.{length}
 use lib.Dec.{leb, ltb, eqb}
 use Rattle.model.specs.Basics.{if_then_else_, _and_, joined}
 use Rattle.model.specs.Table.{Table, sizes}
-use Rattle.model.specs.Place.{bin, position, bucketAt}
+use Rattle.model.specs.Search.{placeAt, foundAt}
 use Rattle.model.specs.Refusal.{Test, first}
 use Rattle.model.specs.Initial.{initial}
 use Rattle.model.specs.Expansion.{expanded, moved}
@@ -162,8 +162,8 @@ acceptedText s (Grow b n) =
     (moved (current s) (expanded (current s) (sizes b n))
     ∷ length (expanded (current s) (sizes b n) .intervals)
     ∷ [])
-acceptedText s (Where x) = line "place" (bin (current s) x ∷ position (current s) x ∷ [])
-acceptedText s (At y p) = line "bucket" (bucketAt (current s) y p ∷ [])
+acceptedText s (Where x) = line "place" (placeAt (current s) x .bin ∷ placeAt (current s) x .position ∷ [])
+acceptedText s (At y p) = line "bucket" (foundAt (current s) y p .bucket ∷ [])
 acceptedText s Moves = moveLines s
 acceptedText s Unreadable = []
 

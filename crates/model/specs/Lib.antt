@@ -5,6 +5,7 @@ pub mod Table
 pub mod Place
 pub mod Due
 pub mod Refusal
+pub mod Search
 pub mod Sound
 pub mod Lent
 pub mod Initial

@@ -20,6 +20,10 @@ unfoldable pub first : List Test → ℕ
 first [] = 0
 first (t ∷ rest) = if t .1 then t .0 else first rest
 
+-- the refusal r that a search itself answers, as a test: 0 is none
+unfoldable pub searched : ℕ → List Test
+searched r = (r, not (eqb r 0)) ∷ []
+
 -- x is 0 or above its limit
 unfoldable pub outside : ℕ → ℕ → Bool
 outside limit x = eqb x 0 or ltb limit x
@@ -92,7 +96,8 @@ blocksFull t s = ltb (bins t) (s .bins) and eqb (length (t .tops)) maxBlocks
 unfoldable pub bucketPast : Table → ℕ → Bool
 bucketPast t x = leb (t .buckets) x
 
--- 7: bin not below n, or position not below that bin's size
+-- 7: bin not below n, or position not below that bin's size. Finding tests the bin; at such a position its search answers that
+-- there is none (`FindRefused`).
 unfoldable pub binPast : Table → ℕ → Bool
 binPast t y = leb (bins t) y
 

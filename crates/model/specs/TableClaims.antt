@@ -3,16 +3,19 @@ use Prim.Native.Nat.{ℕ, _<_}
 use mathlib.Core.Path.{_≡_}
 use mathlib.Core.Logic.{_↔_}
 use mathlib.Core.Bool.{false}
-use mathlib.Core.List.{List}
+use mathlib.Core.List.{List, [], _∷_}
 use lib.ListN.{length, getD}
-use Rattle.model.specs.Table.{Shape, bins, shape, Arrays, table}
-use Rattle.model.specs.Place.{bin, position, bucketAt, binSize}
+use Rattle.model.specs.Table.{Shape, Table, bins, shape, Arrays, table}
+use Rattle.model.specs.Place.{bin, position, binSize}
 use Rattle.model.specs.Due.{due}
-use Rattle.model.specs.Refusal.{first, roomShort}
+use Rattle.model.specs.Refusal.{first, bucketPast, placePast, roomShort}
+use Rattle.model.specs.Search.{bucketAt}
 use Rattle.model.specs.Sound.{Sound}
 use Rattle.model.specs.Saved.{saved}
 use Rattle.model.specs.Calls.{
   tableTests,
+  placeTests,
+  findTests,
   initialRefusal,
   initialReply,
   initialArrays,
@@ -61,6 +64,15 @@ PlaceFound =
     × (bin (table h a) (bucketAt (table h a) y p) ≡ y)
     × (position (table h a) (bucketAt (table h a) y p) ≡ p)
 
+-- the searches refuse just where rules 6 and 7 do
+abbrev pub PlaceRefused : Type 0
+PlaceRefused = (t : Table) (x : ℕ) → first (placeTests t x) ≡ first ((6, bucketPast t x) ∷ [])
+
+abbrev pub FindRefused : Type 0
+FindRefused =
+    (h : Header) (a : Arrays) → Sound h a
+    → (y p : ℕ) → first (findTests (table h a) y p) ≡ first ((7, placePast (table h a) y p) ∷ [])
+
 -- a sound table, saved and loaded, is the same table
 abbrev pub SavedLoaded : Type 0
 SavedLoaded =
@@ -83,5 +95,7 @@ pub record TableClaims : Type 0 where
   pub tableBalanced : TableBalanced
   pub findPlaced : FindPlaced
   pub placeFound : PlaceFound
+  pub placeRefused : PlaceRefused
+  pub findRefused : FindRefused
   pub savedLoaded : SavedLoaded
   pub loadedSaved : LoadedSaved

@@ -10,11 +10,11 @@ use lib.Dec.{eqb}
 use borrow.Author.Tests.{eq-eqb, ne-eqb}
 use Rattle.model.specs.Basics.{if_then_else_, _and_}
 use Rattle.model.specs.Table.{Table, Arrays, header, written, sizes}
-use Rattle.model.specs.Place.{bin, position, located, locatedRefusal}
 use Rattle.model.specs.Refusal.{first}
+use Rattle.model.specs.Search.{placeAt}
 use Rattle.model.specs.Initial.{initial}
 use Rattle.model.specs.Expansion.{expanded, moved}
-use Rattle.model.specs.Calls.{answer, sizeTests, findTests, tableReply, arraysAfter, placeAnswer, findAnswer}
+use Rattle.model.specs.Calls.{answer, sizeTests, placeTests, findTests, tableReply, arraysAfter, findAnswer}
 use Rattle.model.specs.Console.{noMap, current, isFresh, isUnreadable, commandTests, commandRefusal}
 use Rattle.model.specs.declared.command.Command.{Command}
 use Rattle.model.specs.declared.command.Command.the-variants.{Fresh, Grow, Where, At, Moves, Unreadable}
@@ -24,7 +24,7 @@ use Rattle.model.specs.declared.reply.FindReply.{FindReply}
 use Rattle.model.proofs.Counts.{bit-cases}
 use Rattle.model.proofs.Refusals.{accepted as answer-accepted, refused as answer-refused}
 use Rattle.model.proofs.Soundness.{arrays-written}
-use Rattle.lookup.proofs.Searches.{located-refusal}
+use Rattle.model.proofs.Searches.{first-searched, found-refusal}
 use Rattle.growth.specs.Replies.{growRefusal, GrowReply}
 use Rattle.session.specs.Maps.{Maps, maps, isEmpty, mapOf, sessionAt, session, performed, next, isGrow, flips, accepted, answered, Stepped}
 use Rattle.session.specs.declared.state.Stage.{Stage}
@@ -207,23 +207,17 @@ module _ (m : Maps) where
           record { answer = rw (yes, here, reply); flip = rw yes; maps = rw (yes, reply, written) }
 
     -- `where`
-    module _ (x : ℕ) (z : PlaceReply) (p : z ≡ placeAnswer (locatedRefusal (located (mapOf m) x)) (mapOf m) x) where
-      place-number : commandRefusal (session m) (Where x) ≡ locatedRefusal (located (mapOf m) x)
-      unfolding isUnreadable commandTests first if_then_else_
-      place-number = map-refusal (Where x) e ∙ sym (located-refusal (mapOf m) x)
-
+    module _ (x : ℕ) (z : PlaceReply) (p : z ≡ placeAt (mapOf m) x) where
       pub place-refusal : commandRefusal (session m) (Where x) ≡ z .refusal
-      unfolding placeAnswer
+      unfolding isUnreadable commandTests placeTests first if_then_else_
       place-refusal =
-          place-number
-          ∙ sym (refusal-number (locatedRefusal (located (mapOf m) x)) (λ (y : PlaceReply). y .refusal) _ _ sym refl)
+          map-refusal (Where x) e
+          ∙ first-searched (placeAt (mapOf m) x .refusal)
           ∙ sym (ap (λ (y : PlaceReply). y .refusal) p)
 
-      pub place-told : z .refusal ≡ 0 → says.Place (z .bin) (z .position) ≡ accepted (session m) (Where x)
-      unfolding accepted placeAnswer
-      place-told q =
-          let zero = sym place-number ∙ place-refusal ∙ q in
-          rw (here, p ∙ answer-accepted _ _ _ zero)
+      pub place-told : says.Place (z .bin) (z .position) ≡ accepted (session m) (Where x)
+      unfolding accepted
+      place-told = rw (here, p)
 
     -- `at`
     module _ (y k : ℕ) (z : FindReply) (p : z ≡ findAnswer (first (findTests (mapOf m) y k)) (mapOf m) y k) where
@@ -235,7 +229,9 @@ module _ (m : Maps) where
       unfolding findAnswer
       find-refusal =
           find-number
-          ∙ sym (refusal-number (first (findTests (mapOf m) y k)) (λ (y : FindReply). y .refusal) _ _ sym refl)
+          ∙ sym
+          (refusal-number (first (findTests (mapOf m) y k)) (λ (y : FindReply). y .refusal) _ _
+          (λ q. found-refusal (mapOf m) y k q ∙ sym q) refl)
           ∙ sym (ap (λ (y : FindReply). y .refusal) p)
 
       pub find-told : z .refusal ≡ 0 → says.Bucket (z .bucket) ≡ accepted (session m) (At y k)

@@ -7,8 +7,8 @@ use lib.ListN.{length}
 use lib.Dec.{eqb}
 use Rattle.model.specs.Basics.{if_then_else_, _and_}
 use Rattle.model.specs.Table.{Shape, Table, Arrays, table, header, written, sizes}
-use Rattle.model.specs.Place.{bin, position, bucketAt}
 use Rattle.model.specs.Refusal.{first, roomShort}
+use Rattle.model.specs.Search.{placeAt, foundAt}
 use Rattle.model.specs.Sound.{Sound}
 use Rattle.model.specs.Initial.{initial}
 use Rattle.model.specs.Expansion.{expanded, moved}
@@ -100,8 +100,8 @@ accepted s (Grow b n) =
     says.Table
     (moved (current s) (expanded (current s) (sizes b n)))
     (length (expanded (current s) (sizes b n) .intervals))
-accepted s (Where x) = says.Place (bin (current s) x) (position (current s) x)
-accepted s (At y p) = says.Bucket (bucketAt (current s) y p)
+accepted s (Where x) = says.Place (placeAt (current s) x .bin) (placeAt (current s) x .position)
+accepted s (At y p) = says.Bucket (foundAt (current s) y p .bucket)
 accepted s Moves = says.Moves
 accepted s Unreadable = says.Refused 23
 

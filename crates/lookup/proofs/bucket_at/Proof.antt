@@ -1,23 +1,21 @@
--- `lookup::bucket_at` meets its contract: the rank is the place's, and the search finds its interval. Assumes nothing.
-use Prim.Native.Nat.{ℕ, _+_, _-_, _*_, _≤_, _<_}
-use mathlib.Core.Path.{_≡_, refl, ap, sym, _∙_}
+-- `lookup::bucket_at` meets its contract: the rank is the place's, and the search for it answers. Assumes nothing.
+use Prim.Native.Nat.{ℕ, _+_, _-_, _*_, _≤_, _<_, _^_}
+use mathlib.Core.Path.{_≡_, refl, sym, _∙_}
 use native.Mathlib.Omega.{arith}
 use lib.ListN.{getD}
+use Rattle.model.specs.Basics.{before}
 use Rattle.model.specs.Table.{Arrays, arrays, table}
-use Rattle.model.specs.Place.{rankAt, holder}
-use Rattle.model.specs.declared.search.Holder.the-variants.{In, Nothing}
-use Rattle.model.proofs.Finds.{Searched, place-searched}
-use Rattle.lookup.proofs.Finding.{block-below, first-below, rank-here, answer-here, bucket-inside, find-here}
+use Rattle.model.specs.Search.{rankAt, holder}
+use Rattle.model.specs.declared.search.Holder.the-variants.{In}
+use Rattle.model.proofs.Finds.{Including, holder-in}
+use Rattle.lookup.proofs.Finding.{block-below, rank-here, rank-fits, bucket-below, find-nothing, find-in}
 use borrow.Author.Needs.{needs}
 use Rattle.lookup.proofs.bucket_at.Statement.{statement}
 use Rattle.lookup.proofs.bucket_at.Tie as tie
 
--- the lent arrays, and what the search for the place answers
+-- the lent arrays
 abbrev lists : tie.Start → Arrays
 lists c = arrays (c .args .tops .now) (c .args .ends .now) (c .args .blocks .now) (c .args .adjustments .now)
-
-look : (c : tie.Start) → Searched (c .args .h) (lists c) (c .args .bin) (c .args .position)
-look c = place-searched (c .args .h) (lists c) (c .pre .0) _ _ (c .pre .1 .0) (c .pre .1 .1)
 
 cast-block-of-bin : tie.Need-cast-block-of-bin
 cast-block-of-bin c = search needs
@@ -25,16 +23,17 @@ cast-block-of-bin c = search needs
 block-of-bin-requires : tie.Need-block-of-bin-requires
 block-of-bin-requires c κs = search needs
 
--- the block, after its search
-below : (c : tie.After-block-of-bin) → c .block-of-bin .result < c .before .before .before .before .before .before .args .h .«block_count»
-below c =
-    let start = c .before .before .before .before .before .before in
-    block-below (start .args .h) (lists start) (start .pre .0) _ _ (look start) _ _ (c .block-of-bin .ensures) refl
-
 before-requires : tie.Need-before-requires
-before-requires c κs = omega (arith, below c, c .before .before .before .before .before .before .pre .0 .topsLong)
+before-requires c κs =
+    let start = c .before .before .before .before .before .before in
+    omega (
+      arith,
+      block-below (start .args .h) (lists start) (start .pre .0) _ (start .args .position) (start .pre .1)
+          _ (before (start .args .tops .now) (c .block-of-bin .result)) (c .block-of-bin .ensures) refl .0,
+      start .pre .0 .topsLong,
+    )
 
--- the function's entry, the block and its first bin, the rank, the lent arrays' table, before the search for the rank
+-- the function's entry, the block and its first bin, and the rank, before the search for it
 abbrev entry : tie.After-shared-slice-known5 → tie.Start
 entry c = c .before .before .before .before .before .before .before .before
 
@@ -52,35 +51,36 @@ record Here (c : tie.After-shared-slice-known5) : Type 0 where
   below : block c < entry c .args .h .«block_count»
   under : low c ≤ entry c .args .bin
   rise : low c < getD (entry c .args .tops .now) (block c) 0
+  top : getD (entry c .args .tops .now) (block c) 0 < 2 ^ 32
   ranked : rank c ≡ rankAt (table (entry c .args .h) (lists (entry c)) .tops) (entry c .args .bin) (entry c .args .position)
-  inside : rank c + getD (entry c .args .adjustments .now) (look (entry c) .place) 0 < entry c .args .h .buckets
+  fits : rank c + 2 ^ 32 ≤ 2 ^ 64
 
 here : (c : tie.After-shared-slice-known5) → Here c
 here c =
     let start = entry c in
     let e = c .before .before .block-of-bin .ensures in
     let f = c .before .before2 .ensures in
-    let edge = first-below (start .args .h) (lists start) (start .pre .0) _ _ (look start) (block c) (low c) e f in
-    let ranked = rank-here (start .args .h) (lists start) (start .pre .0) _ _ (look start) (block c) (low c) e f in
+    let (below, under, rise) =
+    block-below (start .args .h) (lists start) (start .pre .0) _ (start .args .position) (start .pre .1) (block c) (low c) e f in
+    let top : getD (start .args .tops .now) (block c) 0 < 2 ^ 32 = omega (arith, c .shared-slice-known5 .given (block c)) in
     record {
-      below = below (c .before .before);
-      under = edge .0;
-      rise = edge .1;
-      ranked = ranked;
-      inside = bucket-inside (start .args .h) (lists start) (start .pre .0) _ _ (look start) (block c) (low c) e f (rank c) ranked;
+      below = below;
+      under = under;
+      rise = rise;
+      top = top;
+      ranked = rank-here (start .args .h) (lists start) (start .pre .0) _ _ (start .pre .1) (block c) (low c) e f;
+      fits = rank-fits (start .args .position) _ _ (omega arith) (omega arith) (omega arith);
     }
 
--- the search for the rank answers the place
-answered
-    : (c : tie.After-shared-slice-known5)
-    → holder (table (entry c .args .h) (lists (entry c)) .intervals) 0 0 (block c) (rank c) ≡ In (look (entry c) .place)
-answered c =
-    let start = entry c in
-    answer-here (start .args .h) (lists start) (start .pre .0) _ _ (look start) (block c) (low c)
-    (c .before .before .block-of-bin .ensures) (c .before .before2 .ensures) (rank c) (here c .ranked)
-
 mul-rank : tie.Need-mul-rank
-mul-rank c = omega (arith, below (c .before), c .before .before .before .before .before .before .before .pre .0 .topsLong)
+mul-rank c =
+    let start = c .before .before .before .before .before .before .before in
+    omega (
+      arith,
+      block-below (start .args .h) (lists start) (start .pre .0) _ (start .args .position) (start .pre .1)
+          _ _ (c .before .block-of-bin .ensures) (c .before2 .ensures) .0,
+      start .pre .0 .topsLong,
+    )
 
 shared-slice-read-rank : tie.Need-shared-slice-read-rank
 shared-slice-read-rank c = let k = here c in omega (arith, entry c .pre .0 .topsLong)
@@ -88,20 +88,26 @@ shared-slice-read-rank c = let k = here c in omega (arith, entry c .pre .0 .tops
 sub-rank : tie.Need-sub-rank
 sub-rank c = let k = here c in omega arith
 
+cast-rank : tie.Need-cast-rank
+cast-rank c = let k = here c in omega arith
+
 mul-rank-2 : tie.Need-mul-rank-2
-mul-rank-2 c = let k = here c in omega (arith, k .inside, entry c .pre .0 .bucketLimit)
+mul-rank-2 c = let k = here c in omega (arith, k .fits)
 
 sub-rank-2 : tie.Need-sub-rank-2
 sub-rank-2 c = let k = here c in omega arith
 
+cast-rank-2 : tie.Need-cast-rank-2
+cast-rank-2 c = search needs
+
 add-rank : tie.Need-add-rank
-add-rank c = let k = here c in omega (arith, k .inside, entry c .pre .0 .bucketLimit)
+add-rank c = let k = here c in omega (arith, k .fits)
 
 cast-hold : tie.Need-cast-hold
 cast-hold c = let k = here c in omega (arith, entry c .pre .0 .blockLimit)
 
 hold-requires : tie.Need-hold-requires
-hold-requires c κs = (entry c .pre .0, omega (arith, here c .inside))
+hold-requires c κs = (entry c .pre .0, here c .fits)
 
 enum-known-i : tie.Need-enum-known-i
 enum-known-i c = search needs
@@ -109,36 +115,64 @@ enum-known-i c = search needs
 enum-told : tie.Need-enum-told
 enum-told c = search needs
 
--- where the search answered an interval it is the place
-placed : (c : tie.After-known-told) → c .before .i .given .0 .0 ≡ look (entry (c .before .before .before .before)) .place
-placed c =
-    let same : In (c .before .i .given .0 .0) ≡ In (look (entry (c .before .before .before .before)) .place) =
-    sym (c .before .i .given .1) ∙ c .before .before .before .hold .ensures ∙ answered (c .before .before .before .before) in
-    cc
-
 returns : tie.Need-returns
 returns c =
-    let clash : Nothing ≡ In (look (entry (c .before .before .before)) .place) =
-    sym (c .enum-told .given .1) ∙ c .before .before .hold .ensures ∙ answered (c .before .before .before) in
-    let never : _≡_ {A = ℕ} 0 1 = cc in
-    absurd (omega arith)
+    let k = c .before .before .before in
+    let start = entry k in
+    find-nothing (start .args .h) (lists start) (start .pre .0) _ _ (start .pre .1) (block k) (low k)
+    (k .before .before .block-of-bin .ensures) (k .before .before2 .ensures) (rank k) (here k .ranked)
+    (sym (c .before .before .hold .ensures) ∙ c .enum-told .given .1)
+
+-- where the search answered an interval, its answer
+found
+    : (c : tie.After-known-told)
+    → holder (table (entry (c .before .before .before .before) .args .h) (lists (entry (c .before .before .before .before))) .intervals)
+    0 0 (block (c .before .before .before .before)) (rank (c .before .before .before .before))
+    ≡ In (c .before .i .given .0 .0)
+found c = sym (c .before .before .before .hold .ensures) ∙ c .before .i .given .1
+
+inside
+    : (c : tie.After-known-told)
+    → (c .before .i .given .0 .0 < entry (c .before .before .before .before) .args .h .«interval_count»)
+    × Including (lists (entry (c .before .before .before .before))) (c .before .i .given .0 .0)
+    (block (c .before .before .before .before)) (rank (c .before .before .before .before))
+inside c =
+    let k = c .before .before .before .before in
+    holder-in (entry k .args .h) (lists (entry k)) (block k) (rank k) (c .before .i .given .0 .0) (found c)
 
 mul-t12 : tie.Need-mul-t12
-mul-t12 c = omega (arith, placed c, look (entry (c .before .before .before .before)) .below, entry (c .before .before .before .before) .pre .0 .intervalLimit)
+mul-t12 c = omega (arith, inside c .0, entry (c .before .before .before .before) .pre .0 .intervalLimit)
 
-shared-slice-read-t14 : tie.Need-shared-slice-read-t14
-shared-slice-read-t14 c = omega (arith, placed (c .before), look (entry (c .before .before .before .before .before)) .below, entry (c .before .before .before .before .before) .pre .0 .adjustmentsLong)
+shared-slice-read-t15 : tie.Need-shared-slice-read-t15
+shared-slice-read-t15 c = omega (arith, inside (c .before) .0, entry (c .before .before .before .before .before) .pre .0 .adjustmentsLong)
 
-add-t16 : tie.Need-add-t16
-add-t16 c = omega (arith, ap (λ i. getD (entry (c .before .before .before .before .before) .args .adjustments .now) i 0) (placed (c .before)), here (c .before .before .before .before .before) .inside, entry (c .before .before .before .before .before) .pre .0 .bucketLimit)
+cast-t13 : tie.Need-cast-t13
+cast-t13 c = omega (arith, c .shared-slice-known6 .given (c .before .before .i .given .0 .0))
+
+add-t18 : tie.Need-add-t18
+add-t18 c =
+    omega (
+      arith,
+      here (c .before .before .before .before .before) .fits,
+      c .shared-slice-known6 .given (c .before .before .i .given .0 .0),
+    )
+
+cast-t19 : tie.Need-cast-t19
+cast-t19 c =
+    let k = c .before .before .before .before .before in
+    let (below, including) = inside (c .before) in
+    omega (
+      arith,
+      bucket-below (entry k .args .h) (lists (entry k)) (entry k .pre .0) _ (block k) (rank k) below including,
+      entry k .pre .0 .bucketLimit,
+    )
 
 returns-2 : tie.Need-returns-2
 returns-2 c =
     let k = c .before .before .before .before .before in
     let start = entry k in
-    ap (λ i. record { refusal = 0; bucket = rank k + getD (start .args .adjustments .now) i 0 }) (placed (c .before))
-    ∙ find-here (start .args .h) (lists start) (start .pre .0) _ _ (look start) (block k) (low k)
-    (k .before .before .block-of-bin .ensures) (k .before .before2 .ensures) (rank k) (here k .ranked)
+    find-in (start .args .h) (lists start) (start .pre .0) _ _ (start .pre .1) (block k) (low k)
+    (k .before .before .block-of-bin .ensures) (k .before .before2 .ensures) (rank k) (here k .ranked) _ (found (c .before))
 
 pub bucket-at-spec : {M : Type 1} → statement M
 bucket-at-spec =
@@ -150,8 +184,10 @@ bucket-at-spec =
     mul-rank
     shared-slice-read-rank
     sub-rank
+    cast-rank
     mul-rank-2
     sub-rank-2
+    cast-rank-2
     add-rank
     cast-hold
     hold-requires
@@ -159,6 +195,8 @@ bucket-at-spec =
     enum-told
     returns
     mul-t12
-    shared-slice-read-t14
-    add-t16
+    shared-slice-read-t15
+    cast-t13
+    add-t18
+    cast-t19
     returns-2)

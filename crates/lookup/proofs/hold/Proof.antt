@@ -3,8 +3,6 @@ use Prim.Native.Nat.{_-_}
 use native.Mathlib.Omega.{arith}
 use mathlib.Core.Logic.{⊎-elim}
 use Rattle.model.specs.Table.{Arrays, arrays, table}
-use Rattle.model.proofs.Intervals.{before-mono}
-use Rattle.lookup.proofs.Searches.{adjustment-below}
 use Rattle.lookup.proofs.Finding.{Searching, searching-starts, searching-ends, searching-found, searching-more}
 use Rattle.lookup.proofs.hold.Statement.{statement}
 use Rattle.lookup.proofs.hold.Tie as tie
@@ -32,14 +30,20 @@ mul-bucket c = omega arith
 shared-slice-read-bucket : tie.Need-shared-slice-read-bucket Inv-loop μ-loop
 shared-slice-read-bucket c = omega arith
 
+cast-bucket : tie.Need-cast-bucket Inv-loop μ-loop
+cast-bucket c = omega (arith, c .shared-slice-known .given (c .before .before .loop .i))
+
 add-bucket : tie.Need-add-bucket Inv-loop μ-loop
-add-bucket c = let start = c .before .before .before .before in omega (arith, start .pre .1, adjustment-below (start .args .h) (lists start) (start .pre .0) (c .before .before .loop .i) (omega arith), before-mono (start .args .ends .now) (start .args .h .«interval_count») (start .pre .0 .endsRise) (start .args .h .«interval_count») (c .before .before .loop .i) (omega arith) (omega arith), start .pre .0 .lastEnd)
+add-bucket c = omega (arith, c .before .before .before .before .pre .1, c .shared-slice-known .given (c .before .before .loop .i))
 
 mul-end : tie.Need-mul-end Inv-loop μ-loop
 mul-end c = omega arith
 
 shared-slice-read-end : tie.Need-shared-slice-read-end Inv-loop μ-loop
 shared-slice-read-end c = omega arith
+
+cast-end : tie.Need-cast-end Inv-loop μ-loop
+cast-end c = omega (arith, c .shared-slice-known2 .given (c .before .before .before .loop .i))
 
 mul-if2 : tie.Need-mul-if2 Inv-loop μ-loop
 mul-if2 c = omega arith
@@ -74,9 +78,11 @@ hold-spec =
     loop-holds
     mul-bucket
     shared-slice-read-bucket
+    cast-bucket
     add-bucket
     mul-end
     shared-slice-read-end
+    cast-end
     mul-if2
     shared-slice-read-if2
     add-i

@@ -5,7 +5,7 @@ use native.Mathlib.Nat.{mod-lt}
 use native.Mathlib.Omega.{arith}
 use lib.ListN.{getD}
 use Rattle.model.specs.Table.{arrays}
-use Rattle.lookup.proofs.Searches.{Reached, reached, unreached, place-at, place-past}
+use Rattle.lookup.proofs.Searches.{Reached, reached, place-at, place-past}
 use borrow.Author.Needs.{needs}
 use Rattle.lookup.proofs.placed.Statement.{statement}
 use Rattle.lookup.proofs.placed.Tie as tie
@@ -20,11 +20,7 @@ enum-told : tie.Need-enum-told
 enum-told c = search needs
 
 returns : tie.Need-returns
-returns c =
-    let start = c .before .before .before .before .before .before .before in
-    sym
-    (place-past (start .args .h) _ (start .pre) _
-    (unreached (start .args .h) _ (start .pre) _ (sym (c .before .before .locate .ensures) ∙ c .enum-told .given .1)))
+returns c = sym (place-past _ _ (sym (c .before .before .locate .ensures) ∙ c .enum-told .given .1))
 
 -- the interval that was found
 found
@@ -35,9 +31,7 @@ found
     (c .before .before .before .before .before .before .before .before .args .ends .now)
     (c .before .before .before .before .before .before .before .before .args .blocks .now)
     (c .before .before .before .before .before .before .before .before .args .adjustments .now))
-    (c .before .before .before .before .before .before .before .before .args .bucket)
     (c .before .interval .given .0 .0)
-    (c .before .interval .given .0 .1 .0)
 found c =
     reached _ _ (c .before .before .before .before .before .before .before .before .pre) _ _ _
     (sym (c .before .before .before .locate .ensures) ∙ c .before .interval .given .1)
@@ -90,7 +84,9 @@ returns-2 : tie.Need-returns-2
 returns-2 c =
     let start = c .before .before .before .before .before .before .before .before .before .before .before in
     sym
-    (place-at (start .args .h) _ (start .pre) _ _ _ _ (found (c .before .before .before)) (c .before .before2 .ensures))
+    (place-at (start .args .h) _ _ _ _ _
+    (sym (c .before .before .before .before .before .before .locate .ensures) ∙ c .before .before .before .before .interval .given .1)
+    (found (c .before .before .before)) (c .before .before2 .ensures))
 
 pub placed-spec : {M : Type 1} → statement M
 placed-spec =

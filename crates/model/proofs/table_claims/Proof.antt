@@ -1,7 +1,8 @@
 -- `model::table_claims` meets its contract: a proof of each claim. Assumes nothing.
 use Rattle.model.proofs.Soundness.{sound-iff, initial-sound}
 use Rattle.model.proofs.Places.{size-due, table-balanced}
-use Rattle.model.proofs.Finds.{find-placed, place-found}
+use Rattle.model.proofs.Finds.{find-placed, place-found, find-refused}
+use Rattle.model.proofs.Searches.{place-refused}
 use Rattle.model.proofs.Files.{load-sound, saved-loaded, loaded-saved}
 use Rattle.model.proofs.table_claims.Statement.{statement}
 use Rattle.model.proofs.table_claims.Tie as tie
@@ -16,6 +17,8 @@ returns c =
       tableBalanced = table-balanced;
       findPlaced = find-placed;
       placeFound = place-found;
+      placeRefused = place-refused;
+      findRefused = find-refused;
       savedLoaded = saved-loaded;
       loadedSaved = loaded-saved;
     }

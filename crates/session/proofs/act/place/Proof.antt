@@ -41,7 +41,7 @@ returns-3 c other =
     told-step (maps _ _ other) (Where _) _ _ (c .told .ensures)
     (place-refusal (maps _ _ other) empty _ _ (c .before .before .before .placed .ensures) ∙ c .before .if2 .left)
     refl refl
-    (place-told (maps _ _ other) empty _ _ (c .before .before .before .placed .ensures) (c .before .if2 .left))
+    (place-told (maps _ _ other) empty _ _ (c .before .before .before .placed .ensures))
 
 pub place-spec : {M : Type 1} → statement M
 place-spec =
