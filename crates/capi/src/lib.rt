@@ -39,12 +39,7 @@ pub extern "C" fn irr_initial(
     adjustments: &mut [u32],
 ) -> TableReply
     ensures { λ r. ⌜ r ≡ initialReply (sizes buckets bins) (given tops ends blocks adjustments) ⌝ }
-    ensures { λ _.
-        ⌜
-        left tops ends blocks adjustments
-        ≡ initialArrays (sizes buckets bins)
-        (given tops ends blocks adjustments)
-        ⌝ }
+    ensures { λ _. ⌜ left tops ends blocks adjustments ≡ initialArrays (sizes buckets bins) (given tops ends blocks adjustments) ⌝ }
 {
     irr::initial(buckets, bins, tops, ends, blocks, adjustments)
 }
@@ -65,17 +60,13 @@ pub extern "C" fn irr_expand(
 ) -> TableReply
     ensures { λ r.
         ⌜
-        r
-        ≡ expandReply header (given tops ends blocks adjustments)
-        (sizes buckets bins)
+        r ≡ expandReply header (given tops ends blocks adjustments) (sizes buckets bins)
         (given «new_tops» «new_ends» «new_blocks» «new_adjustments»)
         ⌝ }
     ensures { λ _.
         ⌜
-        left «new_tops» «new_ends» «new_blocks» «new_adjustments»
-        ≡ expandArrays header (given tops ends blocks adjustments)
-        (sizes buckets bins)
-        (given «new_tops» «new_ends» «new_blocks» «new_adjustments»)
+        left «new_tops» «new_ends» «new_blocks» «new_adjustments» ≡ expandArrays header (given tops ends blocks adjustments)
+        (sizes buckets bins) (given «new_tops» «new_ends» «new_blocks» «new_adjustments»)
         ⌝ }
 {
     irr::expand(
@@ -105,17 +96,10 @@ pub extern "C" fn irr_relocations(
     first: u32,
     rows: &mut [u32],
 ) -> RelocationsReply
-    ensures { λ r.
-        ⌜
-        r
-        ≡ relocationsReply header (given tops ends blocks adjustments)
-        (sizes buckets bins) first (now (rows .entry))
-        ⌝ }
+    ensures { λ r. ⌜ r ≡ relocationsReply header (given tops ends blocks adjustments) (sizes buckets bins) first (now (rows .entry)) ⌝ }
     ensures { λ _.
         ⌜
-        now (rows .exit)
-        ≡ relocationsRows header (given tops ends blocks adjustments)
-        (sizes buckets bins) first (now (rows .entry))
+        now (rows .exit) ≡ relocationsRows header (given tops ends blocks adjustments) (sizes buckets bins) first (now (rows .entry))
         ⌝ }
 {
     irr::relocations(
@@ -190,18 +174,8 @@ pub extern "C" fn irr_save(
     adjustments: &[u32],
     buffer: &mut [u8],
 ) -> SaveReply
-    ensures { λ r.
-        ⌜
-        r
-        ≡ saveReply header (given tops ends blocks adjustments)
-        (now (buffer .entry))
-        ⌝ }
-    ensures { λ _.
-        ⌜
-        now (buffer .exit)
-        ≡ saveBytes header (given tops ends blocks adjustments)
-        (now (buffer .entry))
-        ⌝ }
+    ensures { λ r. ⌜ r ≡ saveReply header (given tops ends blocks adjustments) (now (buffer .entry)) ⌝ }
+    ensures { λ _. ⌜ now (buffer .exit) ≡ saveBytes header (given tops ends blocks adjustments) (now (buffer .entry)) ⌝ }
 {
     irr::save(header, tops, ends, blocks, adjustments, buffer)
 }
@@ -214,18 +188,8 @@ pub extern "C" fn irr_load(
     blocks: &mut [u32],
     adjustments: &mut [u32],
 ) -> LoadReply
-    ensures { λ r.
-        ⌜
-        r
-        ≡ loadReply (now (bytes .entry))
-        (given tops ends blocks adjustments)
-        ⌝ }
-    ensures { λ _.
-        ⌜
-        left tops ends blocks adjustments
-        ≡ loadArrays (now (bytes .entry))
-        (given tops ends blocks adjustments)
-        ⌝ }
+    ensures { λ r. ⌜ r ≡ loadReply (now (bytes .entry)) (given tops ends blocks adjustments) ⌝ }
+    ensures { λ _. ⌜ left tops ends blocks adjustments ≡ loadArrays (now (bytes .entry)) (given tops ends blocks adjustments) ⌝ }
 {
     irr::load(bytes, tops, ends, blocks, adjustments)
 }

@@ -39,12 +39,7 @@ pub fn initial(
     adjustments: &mut [u32],
 ) -> TableReply
     ensures { λ r. ⌜ r ≡ initialReply (sizes buckets bins) (given tops ends blocks adjustments) ⌝ }
-    ensures { λ _.
-        ⌜
-        left tops ends blocks adjustments
-        ≡ initialArrays (sizes buckets bins)
-        (given tops ends blocks adjustments)
-        ⌝ }
+    ensures { λ _. ⌜ left tops ends blocks adjustments ≡ initialArrays (sizes buckets bins) (given tops ends blocks adjustments) ⌝ }
 {
     if sizes::room_short(tops, ends, blocks, adjustments) {
         return sizes::refused_table(21);
@@ -81,17 +76,13 @@ pub fn expand(
 ) -> TableReply
     ensures { λ r.
         ⌜
-        r
-        ≡ expandReply header (given tops ends blocks adjustments)
-        (sizes buckets bins)
+        r ≡ expandReply header (given tops ends blocks adjustments) (sizes buckets bins)
         (given «new_tops» «new_ends» «new_blocks» «new_adjustments»)
         ⌝ }
     ensures { λ _.
         ⌜
-        left «new_tops» «new_ends» «new_blocks» «new_adjustments»
-        ≡ expandArrays header (given tops ends blocks adjustments)
-        (sizes buckets bins)
-        (given «new_tops» «new_ends» «new_blocks» «new_adjustments»)
+        left «new_tops» «new_ends» «new_blocks» «new_adjustments» ≡ expandArrays header (given tops ends blocks adjustments)
+        (sizes buckets bins) (given «new_tops» «new_ends» «new_blocks» «new_adjustments»)
         ⌝ }
 {
     if sizes::room_short(new_tops, new_ends, new_blocks, new_adjustments) {
@@ -128,17 +119,10 @@ pub fn relocations(
     first: u32,
     rows: &mut [u32],
 ) -> RelocationsReply
-    ensures { λ r.
-        ⌜
-        r
-        ≡ relocationsReply header (given tops ends blocks adjustments)
-        (sizes buckets bins) first (now (rows .entry))
-        ⌝ }
+    ensures { λ r. ⌜ r ≡ relocationsReply header (given tops ends blocks adjustments) (sizes buckets bins) first (now (rows .entry)) ⌝ }
     ensures { λ _.
         ⌜
-        now (rows .exit)
-        ≡ relocationsRows header (given tops ends blocks adjustments)
-        (sizes buckets bins) first (now (rows .entry))
+        now (rows .exit) ≡ relocationsRows header (given tops ends blocks adjustments) (sizes buckets bins) first (now (rows .entry))
         ⌝ }
 {
     let refusal = soundness::check(header, tops, ends, blocks, adjustments);
@@ -240,18 +224,8 @@ pub fn save(
     adjustments: &[u32],
     buffer: &mut [u8],
 ) -> SaveReply
-    ensures { λ r.
-        ⌜
-        r
-        ≡ saveReply header (given tops ends blocks adjustments)
-        (now (buffer .entry))
-        ⌝ }
-    ensures { λ _.
-        ⌜
-        now (buffer .exit)
-        ≡ saveBytes header (given tops ends blocks adjustments)
-        (now (buffer .entry))
-        ⌝ }
+    ensures { λ r. ⌜ r ≡ saveReply header (given tops ends blocks adjustments) (now (buffer .entry)) ⌝ }
+    ensures { λ _. ⌜ now (buffer .exit) ≡ saveBytes header (given tops ends blocks adjustments) (now (buffer .entry)) ⌝ }
 {
     let refusal = soundness::check(header, tops, ends, blocks, adjustments);
     if refusal != 0 {
@@ -276,18 +250,8 @@ pub fn load(
     blocks: &mut [u32],
     adjustments: &mut [u32],
 ) -> LoadReply
-    ensures { λ r.
-        ⌜
-        r
-        ≡ loadReply (now (bytes .entry))
-        (given tops ends blocks adjustments)
-        ⌝ }
-    ensures { λ _.
-        ⌜
-        left tops ends blocks adjustments
-        ≡ loadArrays (now (bytes .entry))
-        (given tops ends blocks adjustments)
-        ⌝ }
+    ensures { λ r. ⌜ r ≡ loadReply (now (bytes .entry)) (given tops ends blocks adjustments) ⌝ }
+    ensures { λ _. ⌜ left tops ends blocks adjustments ≡ loadArrays (now (bytes .entry)) (given tops ends blocks adjustments) ⌝ }
 {
     if sizes::room_short(tops, ends, blocks, adjustments) {
         return refused_load(21);

@@ -29,7 +29,8 @@ use Rattle.model.proofs.Finds.{entry, Including, includes-holds, includes-true,
 use Rattle.model.proofs.Places.{bin-block, bin-within}
 use Rattle.model.proofs.Searches.{first-searched, found-whole}
 use Rattle.model.proofs.Refusals.{first-skip}
-use Rattle.model.proofs.Rules.{before-next}
+use Rattle.model.proofs.Rules.{before-next, before-some}
+use Rattle.model.proofs.Wells.{bins-last}
 use Rattle.lookup.proofs.Searches.{first-kept, bins-kept}
 
 -- THE BLOCK OF A BIN, from block i on
@@ -129,6 +130,15 @@ module _ (a : Arrays) (count j r : ℕ) where
       )
 
 -- THE SIZE OF A BIN, where n is the number of bins
+
+pub bins-some : (h : Header) (a : Arrays) → Sound h a → (n : ℕ) → n ≡ bins (table h a) → 1 ≤ n
+bins-some h a s n e =
+    omega (
+      arith,
+      bins-last h a s,
+      before-some (a .tops) (h .«block_count») (s .someBlocks),
+      s .topsRise (h .«block_count» - 1) (omega (arith, s .someBlocks)),
+    )
 
 pub size-past
     : (h : Header) (a : Arrays) (n y : ℕ) → n ≡ bins (table h a) → n ≤ y

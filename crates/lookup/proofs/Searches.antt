@@ -9,7 +9,7 @@ use lib.Seq.{getD-take}
 use borrow.Author.Tests.{lt-ltb, le-ltb, le-leb, lt-leb}
 use Rattle.model.specs.Basics.{if_then_else_, from, before}
 use Rattle.model.specs.Table.{Interval, interval, Table, firstBin, blockBins, Arrays, table}
-use Rattle.model.specs.Place.{rank}
+use Rattle.model.specs.Place.{rank, binOf, positionOf}
 use Rattle.model.specs.Search.{intervalAt, indexOf, located, placeOf, placeAt}
 use Rattle.model.specs.Refusal.{adjustmentOf, bucketPast}
 use Rattle.model.specs.Sound.{Sound}
@@ -116,24 +116,27 @@ module _ (h : Header) (a : Arrays) where
   unfolding blockBins
   bins-kept j l = ap₂ _-_ (top-kept j l) (first-kept j (omega arith))
 
-  -- the block of interval i has first bin f
+  first-same : (j : ℕ) → j < h .«block_count» → firstBin (table h a .tops) j ≡ firstBin (a .tops) j
+  unfolding firstBin
+  first-same j l = first-kept j (omega arith)
+
+  bins-same : (j : ℕ) → j < h .«block_count» → blockBins (table h a .tops) j ≡ blockBins (a .tops) j
+  unfolding blockBins firstBin
+  bins-same j l = bins-kept j l
+
+  -- the place of a rank in the block of interval i, whose tops are the lent ones
   pub place-at
-      : (x i r f : ℕ) → located (table h a) x ≡ At i r → Reached h a i → f ≡ before (a .tops) (getD (a .blocks) i 0)
+      : (x i r : ℕ) → located (table h a) x ≡ At i r → Reached h a i
       → placeAt (table h a) x
       ≡ record {
         refusal = 0;
-        bin = f + r % (getD (a .tops) (getD (a .blocks) i 0) 0 - f);
-        position = r / (getD (a .tops) (getD (a .blocks) i 0) 0 - f);
+        bin = binOf (a .tops) (getD (a .blocks) i 0) r;
+        position = positionOf (a .tops) (getD (a .blocks) i 0) r;
       }
   unfolding placeAt placeOf
-  place-at x i r f e found g =
-      rw (
-        e,
-        found .block,
-        bins-kept (getD (a .blocks) i 0) (found .blockBelow),
-        first-kept (getD (a .blocks) i 0) (omega arith),
-        g,
-      )
+  place-at x i r e found =
+      let j = getD (a .blocks) i 0 in
+      rw (e, found .block, bins-same j (found .blockBelow), first-same j (found .blockBelow))
 
 pub place-past : (t : Table) (x : ℕ) → located t x ≡ Outside → placeAt t x ≡ record { refusal = 6; bin = 0; position = 0 }
 unfolding placeAt placeOf

@@ -2,9 +2,10 @@
 ghost use Prim.Native.Nat.{_+_, _^_, _<_, _≤_};
 ghost use mathlib.Core.Logic.{_⊎_};
 ghost use mathlib.Core.Path.{_≡_};
-ghost use lib.ListN.{length, take};
+ghost use lib.ListN.{length, getD, take};
 ghost use Rattle.model.specs.Lent.{LentSound, tableGiven, tableNow};
-ghost use Rattle.model.specs.Table.{bins as binsOf};
+ghost use Rattle.model.specs.Table.{bins as binsOf, firstBin};
+ghost use Rattle.model.specs.Place.{binOf, positionOf};
 ghost use Rattle.model.specs.Search.{located, placeAt, blockOfBin, holder, foundAt};
 ghost use Rattle.model.specs.Refusal.{first};
 ghost use Rattle.model.specs.Calls.{findAnswer, findTests, binSizeAnswer, binSizeTests};
@@ -86,6 +87,24 @@ fn locate(
     }
 }
 
+// The place of a rank in a block.
+fn place_in(tops: &[u32], block: usize, rank: u32) -> PlaceReply
+    requires { ⌜ (block < length (now tops)) × (firstBin (now tops) block < getD (now tops) block 0) ⌝ }
+    ensures { λ r.
+        ⌜
+        r ≡ record { refusal = 0; bin = binOf (now (tops .entry)) block rank; position = positionOf (now (tops .entry)) block rank }
+        ⌝ }
+{
+    let first = before(tops, block);
+    let bins = tops[block] - first;
+    let bin = first + rank % bins;
+    PlaceReply {
+        refusal: 0,
+        bin,
+        position: rank / bins,
+    }
+}
+
 // The bin and position of a bucket, or refusal 6.
 pub fn placed(
     h: Header,
@@ -105,14 +124,7 @@ pub fn placed(
             position: 0,
         };
     };
-    let block = blocks[interval] as usize;
-    let first = before(tops, block);
-    let bins = tops[block] - first;
-    PlaceReply {
-        refusal: 0,
-        bin: first + rank % bins,
-        position: rank / bins,
-    }
+    place_in(tops, blocks[interval] as usize, rank)
 }
 
 // The number of buckets in a bin, or refusal 7. A bin of a sound table has its due size.
@@ -127,11 +139,8 @@ pub fn sized(
     requires { ⌜ LentSound h tops ends blocks adjustments ⌝ }
     ensures { λ r.
         ⌜
-        r
-        ≡ binSizeAnswer
-        (first (binSizeTests (tableGiven h tops ends blocks adjustments) bin))
-        (tableGiven h tops ends blocks adjustments)
-        bin
+        r ≡ binSizeAnswer (first (binSizeTests (tableGiven h tops ends blocks adjustments) bin))
+        (tableGiven h tops ends blocks adjustments) bin
         ⌝ }
 {
     let bins = bin_count(h, tops, ends, blocks, adjustments);
@@ -247,8 +256,7 @@ pub fn found(
     requires { ⌜ LentSound h tops ends blocks adjustments ⌝ }
     ensures { λ r.
         ⌜
-        r
-        ≡ findAnswer (first (findTests (tableGiven h tops ends blocks adjustments) bin position))
+        r ≡ findAnswer (first (findTests (tableGiven h tops ends blocks adjustments) bin position))
         (tableGiven h tops ends blocks adjustments) bin position
         ⌝ }
 {

@@ -82,12 +82,12 @@ answered-from a j r (suc n) i =
     (λ q. inl (
       rw (t .0) (q .0),
       λ k le lt c.
-      ⊎-elim
-      (λ l. q .1 k l (omega arith) c)
-      (λ l.
-      let same : k ≡ i = omega arith in
-      false≢true (sym (t .0) ∙ includes-holds a i j r (rw same at c)))
-      (below-or i k),
+          ⊎-elim
+          (λ l. q .1 k l (omega arith) c)
+          (λ l.
+          let same : k ≡ i = omega arith in
+          false≢true (sym (t .0) ∙ includes-holds a i j r (rw same at c)))
+          (below-or i k),
     ))
     (λ q. let (m, below, d, e) = q in inr (m, omega arith, d, rw (t .0) e))
     (answered-from a j r n (suc i)))

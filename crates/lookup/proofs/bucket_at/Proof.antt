@@ -107,7 +107,7 @@ cast-hold : tie.Need-cast-hold
 cast-hold c = let k = here c in omega (arith, entry c .pre .0 .blockLimit)
 
 hold-requires : tie.Need-hold-requires
-hold-requires c κs = (entry c .pre .0, here c .fits)
+hold-requires c κs = (entry c .pre .0, omega (arith, here c .fits))
 
 enum-known-i : tie.Need-enum-known-i
 enum-known-i c = search needs
