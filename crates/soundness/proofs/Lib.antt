@@ -1,3 +1,4 @@
 pub mod Flags
 pub mod Passed
 pub mod Turns
+pub mod Walk

@@ -1,7 +1,9 @@
 // The check of a lent table: rules 11 to 16 of document 01. A rule's function says whether the table breaks it.
 use model::table::Header;
+use std::num::wrapping_sub_u32;
 use table::due_below;
 ghost use mathlib.Core.Path.{_≡_};
+ghost use mathlib.Core.Bool.{false};
 ghost use mathlib.Core.List.{List, []};
 ghost use Prim.Native.Nat.{ℕ, _≤_};
 ghost use lib.ListN.{length, replicate};
@@ -68,15 +70,13 @@ fn rising(xs: &[u32], n: usize) -> bool
     requires { ⌜ n ≤ length (now xs) ⌝ }
     ensures { λ r. ⌜ r ≡ rises (now (xs .entry)) n ⌝ }
 {
-    let mut ok = true;
-    let mut last: u32 = 0;
-    let mut i: usize = 0;
+    if n == 0 {
+        return true;
+    }
+    let mut ok = 0 < xs[0];
+    let mut i: usize = 1;
     while i < n {
-        let x = xs[i];
-        if x <= last {
-            ok = false;
-        }
-        last = x;
+        ok = ok & (xs[i - 1] < xs[i]);
         i += 1;
     }
     ok
@@ -126,8 +126,9 @@ fn blocks_wrong(h: Header, blocks: &[u32]) -> bool
     wrong
 }
 
-// Walks the intervals once: sums how many buckets each block holds, and says whether the table breaks 16: a wrong
-// adjustment. Right is the interval's start less what its block holds before it.
+// Walks the intervals once, and says whether the table breaks 16: a wrong adjustment. Where it does not, `sums` is what
+// each block holds. Where an interval's adjustment is right, its block holds before it its start less its adjustment, and
+// then its end less its adjustment: so no turn waits for the sum of the turn before it.
 fn walked(
     h: Header,
     ends: &[u32],
@@ -138,24 +139,42 @@ fn walked(
     requires { ⌜ (IntervalsRight h (now ends) (now blocks))
         × (h .«interval_count» ≤ length (now adjustments))
         × (now sums ≡ replicate maxBlocks 0) ⌝ }
-    ensures { λ r. ⌜ (Held h (now (ends .entry)) (now (blocks .entry)) (now (sums .exit)))
-        × (r ≡ adjustmentsWrong h (arrays [] (now (ends .entry)) (now (blocks .entry)) (now (adjustments .entry)))) ⌝ }
+    ensures { λ r. ⌜ (r ≡ adjustmentsWrong h (arrays [] (now (ends .entry)) (now (blocks .entry)) (now (adjustments .entry))))
+        × (r ≡ false → Held h (now (ends .entry)) (now (blocks .entry)) (now (sums .exit))) ⌝ }
 {
-    let mut wrong = false;
+    let mut bad: u32 = 0;
     let mut start: u32 = 0;
     let mut i: usize = 0;
     while i < h.interval_count as usize {
         let end = ends[i];
         let block = blocks[i] as usize;
-        let sum = sums[block];
-        if adjustments[i] != start - sum {
-            wrong = true;
-        }
-        sums[block] = sum + (end - start);
+        let adjustment = adjustments[i];
+        let right = wrapping_sub_u32(start, adjustment);
+        let then = wrapping_sub_u32(end, adjustment);
+        bad = bad | (sums[block] ^ right);
+        sums[block] = then;
         start = end;
         i += 1;
     }
-    wrong
+    bad != 0
+}
+
+// How many buckets each block holds, by sums.
+fn summed(h: Header, ends: &[u32], blocks: &[u32]) -> [u32; 65]
+    requires { ⌜ IntervalsRight h (now ends) (now blocks) ⌝ }
+    ensures { λ r. ⌜ Held h (now (ends .entry)) (now (blocks .entry)) r ⌝ }
+{
+    let mut sums = [0u32; 65];
+    let mut start: u32 = 0;
+    let mut i: usize = 0;
+    while i < h.interval_count as usize {
+        let end = ends[i];
+        let block = blocks[i] as usize;
+        sums[block] += end - start;
+        start = end;
+        i += 1;
+    }
+    sums
 }
 
 // 15: a block whose intervals hold another number than its due. `sums` is what each block holds.
@@ -200,12 +219,15 @@ pub fn check(h: Header, tops: &[u32], ends: &[u32], blocks: &[u32], adjustments:
         return 14;
     }
     let mut sums = [0u32; 65];
-    let wrong = walked(h, ends, blocks, adjustments, &mut sums);
+    if walked(h, ends, blocks, adjustments, &mut sums) {
+        let held = summed(h, ends, blocks);
+        if holdings_wrong(h, tops, &held) {
+            return 15;
+        }
+        return 16;
+    }
     if holdings_wrong(h, tops, &sums) {
         return 15;
-    }
-    if wrong {
-        return 16;
     }
     0
 }

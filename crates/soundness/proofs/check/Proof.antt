@@ -2,6 +2,7 @@
 -- what the rules before it have shown. Assumes nothing.
 use mathlib.Core.Path.{_≡_, refl, sym, _∙_}
 use mathlib.Core.Bool.{false}
+use mathlib.Core.List.{[], _∷_}
 use borrow.Author.Needs.{needs}
 use Rattle.model.specs.Basics.{_or_}
 use Rattle.model.specs.Table.{Arrays, arrays}
@@ -13,6 +14,7 @@ use Rattle.model.specs.Refusal.{
   blocksWrong,
   holdingsWrong,
   adjustmentsWrong,
+  first,
 }
 use Rattle.model.specs.Calls.{tableTests}
 use Rattle.model.specs.declared.table.Header.{Header}
@@ -47,8 +49,12 @@ at4 c = at3 (c .before .before)
 abbrev at5 : tie.Else5 → tie.Start
 at5 c = at4 (c .before .before)
 
-abbrev at6 : tie.After-holdings-wrong → tie.Start
-at6 c = at5 (c .before .before .before .before)
+-- the last rule passed before the walk, and the entry, from after the walk
+abbrev last : tie.After-walked → tie.Else5
+last c = c .before .before
+
+abbrev at6 : tie.After-walked → tie.Start
+at6 c = at5 (last c)
 
 -- the rules passed on the way
 header-pass : (c : tie.Else1) → headerOutside (h (at1 c)) ≡ false
@@ -69,13 +75,24 @@ ends-pass c = sym (c .before .ends-wrong .ensures) ∙ c .if4 .left
 blocks-pass : (c : tie.Else5) → blocksWrong (h (at5 c)) (a (at5 c) .blocks) ≡ false
 blocks-pass c = sym (c .before .blocks-wrong .ensures) ∙ c .if5 .left
 
--- what the test of 15 and the flag of 16 say
-holdings-said : (c : tie.After-holdings-wrong) → c .holdings-wrong .result ≡ holdingsWrong (h (at6 c)) (a (at6 c))
-holdings-said c = c .holdings-wrong .ensures _ _ (c .before .before .walked .ensures .0) ∙ holdings-same _ _ _ _ _ _
+-- what the walk and the tests of 15 say
+adjustments-said : (c : tie.After-walked) → c .walked .result ≡ adjustmentsWrong (h (at6 c)) (a (at6 c))
+adjustments-said c = c .walked .ensures .0 ∙ adjustments-same _ _ _ _ _ _
 
-adjustments-said
-    : (c : tie.After-holdings-wrong) → c .before .before .walked .result ≡ adjustmentsWrong (h (at6 c)) (a (at6 c))
-adjustments-said c = c .before .before .walked .ensures .1 ∙ adjustments-same _ _ _ _ _ _
+abbrev walk : tie.After-holdings-wrong → tie.After-walked
+walk c = c .before .before .before .before
+
+summed-said
+    : (c : tie.After-holdings-wrong) → c .holdings-wrong .result ≡ holdingsWrong (h (at6 (walk c))) (a (at6 (walk c)))
+summed-said c = c .holdings-wrong .ensures _ _ (c .before .before .summed .ensures) ∙ holdings-same _ _ _ _ _ _
+
+abbrev walk2 : tie.After-holdings-wrong2 → tie.After-walked
+walk2 c = c .before .before .before
+
+walked-said
+    : (c : tie.After-holdings-wrong2) → c .holdings-wrong2 .result ≡ holdingsWrong (h (at6 (walk2 c))) (a (at6 (walk2 c)))
+walked-said c =
+    c .holdings-wrong2 .ensures _ _ (walk2 c .walked .ensures .1 (c .before .before .if6 .left)) ∙ holdings-same _ _ _ _ _ _
 
 tops-done : (c : tie.Else3) → TopsRight (h (at3 c)) (a (at3 c) .tops)
 tops-done c = tops-right _ _ (header-pass (c .before .before .before .before)) (short-pass (c .before .before)) (tops-pass c)
@@ -143,40 +160,46 @@ walked-requires : tie.Need-walked-requires
 walked-requires c κs =
     (intervals-done (c .before), adjustments-long _ _ (short-pass (c .before .before .before .before .before .before .before)), refl)
 
+summed-requires : tie.Need-summed-requires
+summed-requires c κs = intervals-done (last (c .before))
+
 holdings-wrong-requires : tie.Need-holdings-wrong-requires
-holdings-wrong-requires c κs = tops-done (c .before .before .before .before .before .before .before)
+holdings-wrong-requires c κs = tops-done (last (c .before .before .before) .before .before .before .before)
+
+-- rules 11 to 14 are passed
+passed
+    : (c : tie.Else5)
+    → first (tableTests (h (at5 c)) (a (at5 c)))
+    ≡ first ((15, holdingsWrong (h (at5 c)) (a (at5 c))) ∷ (16, adjustmentsWrong (h (at5 c)) (a (at5 c))) ∷ [])
+unfolding tableTests
+passed c =
+    first-skip _ _ (sizes-pass (c .before .before .before .before .before .before))
+    ∙ first-skip _ _ (tops-pass (c .before .before .before .before))
+    ∙ first-skip _ _ (ends-pass (c .before .before))
+    ∙ first-skip _ _ (blocks-pass c)
 
 returns-6 : tie.Need-returns-6
-unfolding tableTests
-returns-6 c =
-    sym
-    (first-skip _ _ (sizes-pass (c .before .before .before .before .before .before .before .before .before .before .before))
-    ∙ first-skip _ _ (tops-pass (c .before .before .before .before .before .before .before .before .before))
-    ∙ first-skip _ _ (ends-pass (c .before .before .before .before .before .before .before))
-    ∙ first-skip _ _ (blocks-pass (c .before .before .before .before .before))
-    ∙ first-here _ _ (sym (holdings-said (c .before)) ∙ c .if6 .taken))
+returns-6 c = sym (passed (last (walk (c .before))) ∙ first-here _ _ (sym (summed-said (c .before)) ∙ c .if7 .taken))
 
 returns-7 : tie.Need-returns-7
-unfolding tableTests
 returns-7 c =
     sym
-    (first-skip _ _ (sizes-pass (c .before .before .before .before .before .before .before .before .before .before .before .before))
-    ∙ first-skip _ _ (tops-pass (c .before .before .before .before .before .before .before .before .before .before))
-    ∙ first-skip _ _ (ends-pass (c .before .before .before .before .before .before .before .before))
-    ∙ first-skip _ _ (blocks-pass (c .before .before .before .before .before .before))
-    ∙ first-skip _ _ (sym (holdings-said (c .before .before)) ∙ c .before .if6 .left)
-    ∙ first-here _ _ (sym (adjustments-said (c .before .before)) ∙ c .if7 .taken))
+    (passed (last (walk (c .before)))
+    ∙ first-skip _ _ (sym (summed-said (c .before)) ∙ c .if7 .left)
+    ∙ first-here _ _ (sym (adjustments-said (walk (c .before))) ∙ c .before .before .before .before .if6 .taken))
+
+holdings-wrong-requires-2 : tie.Need-holdings-wrong-requires-2
+holdings-wrong-requires-2 c κs = tops-done (last (c .before .before) .before .before .before .before)
 
 returns-8 : tie.Need-returns-8
-unfolding tableTests
-returns-8 c =
+returns-8 c = sym (passed (last (walk2 (c .before))) ∙ first-here _ _ (sym (walked-said (c .before)) ∙ c .if8 .taken))
+
+returns-9 : tie.Need-returns-9
+returns-9 c =
     sym
-    (first-skip _ _ (sizes-pass (c .before .before .before .before .before .before .before .before .before .before .before .before))
-    ∙ first-skip _ _ (tops-pass (c .before .before .before .before .before .before .before .before .before .before))
-    ∙ first-skip _ _ (ends-pass (c .before .before .before .before .before .before .before .before))
-    ∙ first-skip _ _ (blocks-pass (c .before .before .before .before .before .before))
-    ∙ first-skip _ _ (sym (holdings-said (c .before .before)) ∙ c .before .if6 .left)
-    ∙ first-skip _ _ (sym (adjustments-said (c .before .before)) ∙ c .if7 .left)
+    (passed (last (walk2 (c .before)))
+    ∙ first-skip _ _ (sym (walked-said (c .before)) ∙ c .if8 .left)
+    ∙ first-skip _ _ (sym (adjustments-said (walk2 (c .before))) ∙ c .before .before .before .if6 .left)
     ∙ first-none)
 
 pub check-spec : {M : Type 1} → statement M
@@ -194,7 +217,10 @@ check-spec =
     blocks-wrong-requires
     returns-5
     walked-requires
+    summed-requires
     holdings-wrong-requires
     returns-6
     returns-7
-    returns-8)
+    holdings-wrong-requires-2
+    returns-8
+    returns-9)

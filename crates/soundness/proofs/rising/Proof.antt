@@ -1,31 +1,46 @@
--- `soundness::rising` meets its contract. The loop's invariant: `ok` says whether the first i entries rise, and `last` is the
--- entry before place i. Assumes nothing.
+-- `soundness::rising` meets its contract. The loop's invariant: `ok` says whether the first i entries rise. Assumes nothing.
 use Prim.Native.Nat.{_≤_, _-_}
 use mathlib.Core.Path.{_≡_, refl, sym, _∙_}
-use mathlib.Core.Logic.{⊎-elim}
 use native.Mathlib.Omega.{arith}
-use Rattle.model.specs.Basics.{all, before}
+use Rattle.model.specs.Basics.{_and_, all, before}
 use Rattle.model.specs.Refusal.{rises}
-use Rattle.model.proofs.Rules.{before-next}
-use Rattle.soundness.proofs.Flags.{rises-cleared, rises-kept}
+use Rattle.soundness.proofs.Flags.{rises-more}
 use Rattle.soundness.proofs.rising.Statement.{statement}
 use Rattle.soundness.proofs.rising.Tie as tie
+use Rattle.soundness.proofs.rising.Reads as reads
+use Rattle.soundness.proofs.rising.Lts as lts
 
 abbrev Inv-loop : tie.InvT-loop
-Inv-loop xs n ok₀ last₀ i₀ ok last i = (i ≤ n) × (last ≡ before xs i) × (ok ≡ rises xs i)
+Inv-loop xs n ok₀ i₀ ok i = (1 ≤ i) × (i ≤ n) × (ok ≡ rises xs i)
 
 abbrev μ-loop : tie.MeasureT-loop
-μ-loop xs n ok₀ last₀ i₀ ok last i = n - i
+μ-loop xs n ok₀ i₀ ok i = n - i
+
+returns : tie.Need-returns Inv-loop μ-loop
+unfolding rises all
+returns c = rw (c .if1 .taken)
+
+shared-slice-read-ok : tie.Need-shared-slice-read-ok Inv-loop μ-loop
+shared-slice-read-ok c = omega arith
 
 loop-holds : tie.Need-loop-holds Inv-loop μ-loop
-unfolding before rises all
-loop-holds c = (omega arith, refl, refl)
+unfolding rises all before _and_
+loop-holds c = (omega arith, omega arith, refl)
 
-mul-x : tie.Need-mul-x Inv-loop μ-loop
-mul-x c = omega arith
+sub-ok : tie.Need-sub-ok Inv-loop μ-loop
+sub-ok c = omega arith
 
-shared-slice-read-x : tie.Need-shared-slice-read-x Inv-loop μ-loop
-shared-slice-read-x c = omega arith
+mul-ok : tie.Need-mul-ok Inv-loop μ-loop
+mul-ok c = omega arith
+
+shared-slice-read-ok-2 : tie.Need-shared-slice-read-ok-2 Inv-loop μ-loop
+shared-slice-read-ok-2 c = omega arith
+
+mul-ok-2 : tie.Need-mul-ok-2 Inv-loop μ-loop
+mul-ok-2 c = omega arith
+
+shared-slice-read-ok-3 : tie.Need-shared-slice-read-ok-3 Inv-loop μ-loop
+shared-slice-read-ok-3 c = omega arith
 
 add-i : tie.Need-add-i Inv-loop μ-loop
 add-i c = omega arith
@@ -34,18 +49,11 @@ loop-less : tie.Need-loop-less Inv-loop μ-loop
 loop-less c = omega arith
 
 loop-again : tie.Need-loop-again Inv-loop μ-loop
-loop-again c = (
-  omega arith,
-  sym (before-next _ _),
-  ⊎-elim
-      (λ w. w .1 ∙ rises-cleared _ _ (let t = w .0 in omega arith))
-      (λ w. w .1 ∙ rises-kept _ _ _ (c .before .before .before .loop .inv .2) (let t = w .0 in omega arith))
-      (c .if1 .came),
-)
+loop-again c = (omega arith, omega arith, rises-more _ _ _ (c .before .before .before .loop .inv .0) (c .before .before .before .loop .inv .2))
 
-returns : tie.Need-returns Inv-loop μ-loop
-returns c =
-    let same : c .before .loop .i ≡ c .before .before .args .n = omega arith in
+returns-2 : tie.Need-returns-2 Inv-loop μ-loop
+returns-2 c =
+    let same : c .before .loop .i ≡ c .before .before .before .before .args .n = omega arith in
     rw same at (c .before .loop .inv .2)
 
 pub rising-spec : {M : Type 1} → statement M
@@ -54,10 +62,15 @@ rising-spec =
     (tie.spec
     Inv-loop
     μ-loop
+    returns
+    shared-slice-read-ok
     loop-holds
-    mul-x
-    shared-slice-read-x
+    sub-ok
+    mul-ok
+    shared-slice-read-ok-2
+    mul-ok-2
+    shared-slice-read-ok-3
     add-i
     loop-less
     loop-again
-    returns)
+    returns-2)

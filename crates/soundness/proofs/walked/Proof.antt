@@ -1,36 +1,31 @@
--- `soundness::walked` meets its contract. The loop's invariant: the array has the sums before interval i, and `wrong` says
--- whether an adjustment of the first i intervals is wrong. Assumes nothing.
-use Prim.Native.Nat.{_≤_, _-_}
+-- `soundness::walked` meets its contract. The loop's invariant: as Walk says. Assumes nothing.
+use Prim.Native.Nat.{_≤_, _<_, _-_}
 use mathlib.Core.Path.{_≡_, refl, sym, _∙_, ap}
-use mathlib.Core.Logic.{⊎-elim}
-use mathlib.Core.Bool.{not}
 use mathlib.Core.List.{[]}
 use native.Mathlib.Omega.{arith}
-use lib.Dec.{eqb}
 use lib.ListN.{getD}
-use borrow.Author.Tests.{eq-eqb, ne-eqb}
-use Rattle.model.specs.Basics.{all, before}
+use Rattle.model.specs.Basics.{before}
+use Rattle.model.specs.Limits.{maxBlocks}
 use Rattle.model.specs.Table.{arrays}
 use Rattle.model.specs.Place.{held}
-use Rattle.model.specs.Refusal.{adjustmentOf, adjustmentsWrong}
-use Rattle.model.proofs.Holdings.{Sums, sums-none, sums-adjustment, held-same}
-use Rattle.soundness.proofs.Flags.{wrong-set, wrong-kept}
-use Rattle.soundness.proofs.Turns.{Turn, turn, turned}
+use Rattle.model.specs.Refusal.{adjustmentsWrong}
+use Rattle.model.proofs.Holdings.{held-same}
+use Rattle.soundness.proofs.Walk.{Walked, walked-none, walked-more, walked-flag, walked-sums}
 use Rattle.soundness.proofs.walked.Statement.{statement}
 use Rattle.soundness.proofs.walked.Tie as tie
+use Rattle.soundness.proofs.walked.Reads as reads
+use Rattle.soundness.proofs.walked.Lts as lts
+use Rattle.std.proofs.num.wrapping_sub_u32.Reads as wrapping-sub-u32-reads
 
 abbrev Inv-loop : tie.InvT-loop
-Inv-loop h ends blocks adjustments sums₀ wrong₀ start₀ i₀ sums wrong start i =
-    (i ≤ h .«interval_count»)
-    × Sums h (arrays [] ends blocks adjustments) i start sums
-    × (wrong ≡ not (all (λ m. eqb (getD adjustments m 0) (adjustmentOf h (arrays [] ends blocks adjustments) m)) i))
+Inv-loop h ends blocks adjustments sums₀ bad₀ start₀ i₀ sums bad start i =
+    (i ≤ h .«interval_count») × Walked h (arrays [] ends blocks adjustments) i start sums bad
 
 abbrev μ-loop : tie.MeasureT-loop
-μ-loop h ends blocks adjustments sums₀ wrong₀ start₀ i₀ sums wrong start i = h .«interval_count» - i
+μ-loop h ends blocks adjustments sums₀ bad₀ start₀ i₀ sums bad start i = h .«interval_count» - i
 
 loop-holds : tie.Need-loop-holds Inv-loop μ-loop
-unfolding all
-loop-holds c = (omega arith, rw (c .pre .2) (sums-none _ _), refl)
+loop-holds c = (omega arith, rw (c .before .before .before .pre .2) (walked-none _ _))
 
 cast-if1 : tie.Need-cast-if1 Inv-loop μ-loop
 cast-if1 c = omega arith
@@ -47,66 +42,44 @@ mul-block c = omega arith
 shared-slice-read-block : tie.Need-shared-slice-read-block Inv-loop μ-loop
 shared-slice-read-block c = omega arith
 
-here
-    : (c : tie.Then1 Inv-loop μ-loop)
-    → Turn
-    (c .before .before .before .args .ends .now)
-    (c .before .before .before .args .blocks .now)
-    (c .before .before .loop .i)
-    (c .before .before .loop .start)
-    (c .before .before .loop .sums)
-here c = turn _ [] _ _ _ (c .before .before .before .pre .0) _ _ _ (c .before .before .loop .inv .1) (omega arith)
+-- the function's entry and the loop's head, from inside a turn
+abbrev entry : tie.Then1 Inv-loop μ-loop → tie.Start Inv-loop μ-loop
+entry c = c .before .before .before .before .before .before
+
+below
+    : (c : tie.Then1 Inv-loop μ-loop) → getD (entry c .args .blocks .now) (c .before .before .loop .i) 0 < maxBlocks
+below c = entry c .pre .0 .blocksBelow (c .before .before .loop .i) (omega arith)
 
 cast-block : tie.Need-cast-block Inv-loop μ-loop
-cast-block c = let t = here (c .before .before) in omega arith
+cast-block c = omega (arith, below (c .before .before))
 
-mul-sum : tie.Need-mul-sum Inv-loop μ-loop
-mul-sum c = let t = here (c .before .before) in omega arith
+mul-adjustment : tie.Need-mul-adjustment Inv-loop μ-loop
+mul-adjustment c = omega arith
 
-element-copy-out-sum : tie.Need-element-copy-out-sum Inv-loop μ-loop
-element-copy-out-sum c = let t = here (c .before .before) in omega arith
+shared-slice-read-adjustment : tie.Need-shared-slice-read-adjustment Inv-loop μ-loop
+shared-slice-read-adjustment c = omega arith
 
-mul-if2 : tie.Need-mul-if2 Inv-loop μ-loop
-mul-if2 c = omega arith
+wrapping-sub-u32-requires : tie.Need-wrapping-sub-u32-requires Inv-loop μ-loop
+wrapping-sub-u32-requires c κs = tt
 
-shared-slice-read-if2 : tie.Need-shared-slice-read-if2 Inv-loop μ-loop
-shared-slice-read-if2 c = omega arith
+wrapping-sub-u32-requires-2 : tie.Need-wrapping-sub-u32-requires-2 Inv-loop μ-loop
+wrapping-sub-u32-requires-2 c κs = tt
 
-sub-if2 : tie.Need-sub-if2 Inv-loop μ-loop
-sub-if2 c = let t = here (c .before .before .before .before) in omega arith
+mul-bad : tie.Need-mul-bad Inv-loop μ-loop
+mul-bad c = omega (arith, below (c .before .before .before .before .before))
 
--- the turn, from after the test
-abbrev inside : tie.Joined2 Inv-loop μ-loop → tie.Then1 Inv-loop μ-loop
-inside c = c .before .before .before .before .before
+element-copy-out-bad : tie.Need-element-copy-out-bad Inv-loop μ-loop
+element-copy-out-bad c = omega (arith, below (c .before .before .before .before .before))
 
-sub-sums : tie.Need-sub-sums Inv-loop μ-loop
-sub-sums c = let t = here (inside c) in omega arith
-
-add-sums : tie.Need-add-sums Inv-loop μ-loop
-add-sums c =
-    let t = here (inside c) in
-    omega (arith, c .before .before .before .before .shared-slice-known .given (inside c .before .before .loop .i))
+-- the turn, from after its store to `bad`
+abbrev inside : tie.After-bad Inv-loop μ-loop → tie.Then1 Inv-loop μ-loop
+inside c = c .before .before .before .before .before .before
 
 mul-sums : tie.Need-mul-sums Inv-loop μ-loop
-mul-sums c = let t = here (inside c) in omega arith
+mul-sums c = omega (arith, below (inside c))
 
 element-write-sums : tie.Need-element-write-sums Inv-loop μ-loop
-element-write-sums c = let t = here (inside c) in omega arith
-
--- what the test compares with is the right adjustment
-right
-    : (c : tie.Then1 Inv-loop μ-loop)
-    → c .before .before .loop .start
-    - getD (c .before .before .loop .sums) (getD (c .before .before .before .args .blocks .now) (c .before .before .loop .i) 0) 0
-    ≡ adjustmentOf
-    (c .before .before .before .args .h)
-    (arrays
-    []
-    (c .before .before .before .args .ends .now)
-    (c .before .before .before .args .blocks .now)
-    (c .before .before .before .args .adjustments .now))
-    (c .before .before .loop .i)
-right c = omega (arith, sums-adjustment _ _ _ _ _ _ (c .before .before .loop .inv .1) refl (here c .block))
+element-write-sums c = omega (arith, below (inside c))
 
 add-i : tie.Need-add-i Inv-loop μ-loop
 add-i c = omega arith
@@ -117,25 +90,30 @@ loop-less c = omega arith
 loop-again : tie.Need-loop-again Inv-loop μ-loop
 loop-again c = (
   omega arith,
-  turned _ [] _ _ _ (inside c .before .before .before .pre .0) _ _ _ (inside c .before .before .loop .inv .1) (omega arith),
-  ⊎-elim
-      (λ w. w .1 ∙ wrong-set _ _ (ne-eqb _ _ (λ e. w .0 .taken (e ∙ sym (right (inside c))))))
-      (λ w. w .1 ∙ wrong-kept _ _ _ (inside c .before .before .loop .inv .2) (eq-eqb _ _ (w .0 .left ∙ right (inside c))))
-      (c .if2 .came),
+  walked-more _ _ _ _ (entry (inside c) .pre .0) _ _ _ _ (omega arith) _ _
+      (omega (arith, c .before .before .before .shared-slice-known6 .given (inside c .before .before .loop .i)))
+      (omega arith)
+      (omega arith)
+      (c .before .before .wrapping-sub-u32 .ensures)
+      (c .before .wrapping-sub-u322 .ensures)
+      (inside c .before .before .loop .inv .1),
 )
 
 returns : tie.Need-returns Inv-loop μ-loop
 unfolding adjustmentsWrong
 returns c =
-    let same : c .before .before .loop .i ≡ c .before .before .before .args .h .«interval_count» = omega arith in
-    let sums = c .before .before .loop .inv .1 in (
-      record {
-        cell = λ j l.
-            sums .cell j l
-            ∙ ap (held _ j) (sums .starts ∙ ap (before _) same ∙ c .before .before .before .pre .0 .last)
-            ∙ held-same _ _ _ _ _ _ _ j _;
-      },
-      rw same at (c .before .before .loop .inv .2),
+    let begun = c .before .before .before .before .before .before in
+    let same : c .before .before .loop .i ≡ begun .args .h .«interval_count» = omega arith in
+    (
+      rw same at (walked-flag _ _ _ _ _ _ (c .before .before .loop .inv .1)),
+      λ f.
+          let sums = walked-sums _ _ _ _ _ _ (c .before .before .loop .inv .1) f in
+          record {
+            cell = λ j l.
+                sums .cell j l
+                ∙ ap (held _ j) (sums .starts ∙ ap (before _) same ∙ begun .pre .0 .last)
+                ∙ held-same _ _ _ _ _ _ _ j _;
+          },
     )
 
 pub walked-spec : {M : Type 1} → statement M
@@ -151,13 +129,12 @@ walked-spec =
     mul-block
     shared-slice-read-block
     cast-block
-    mul-sum
-    element-copy-out-sum
-    mul-if2
-    shared-slice-read-if2
-    sub-if2
-    sub-sums
-    add-sums
+    mul-adjustment
+    shared-slice-read-adjustment
+    wrapping-sub-u32-requires
+    wrapping-sub-u32-requires-2
+    mul-bad
+    element-copy-out-bad
     mul-sums
     element-write-sums
     add-i
