@@ -1,31 +1,27 @@
 -- What the tests of a file show of it and of the header h that it says, and the table that it gives. Assumes nothing.
-use Prim.Native.Nat.{ℕ}
-use mathlib.Core.Path.{_≡_, sym, _∙_, ap, subst}
-use mathlib.Core.Bool.{false}
+use Prim.Native.Nat.{ℕ, _≤_}
+use mathlib.Core.Path.{_≡_, refl, sym, _∙_, ap, ap₂, subst}
+use mathlib.Core.Bool.{true, false}
 use mathlib.Core.List.{List, [], _∷_}
+use native.Mathlib.Decide.{ℕ-discrete}
 use native.Mathlib.Omega.{arith}
+use lib.ListN.{length, take, drop}
+use lib.Seq.{take-at, take-length}
 use borrow.Author.Tests.{eqb-true, not-false}
 use Rattle.model.specs.Basics.{from}
 use Rattle.model.specs.Table.{Arrays, arrays, table, over, written}
-use Rattle.model.specs.Refusal.{Test, first, topsWrong, endsWrong, blocksWrong, holdingsWrong, adjustmentOf}
+use Rattle.model.specs.Refusal.{first, topsWrong, endsWrong, blocksWrong, holdingsWrong, adjustmentOf, roomShort}
 use Rattle.model.specs.Saved.{savedLength, loadedHeader, readArrays, loadedArrays, fileWrong}
-use Rattle.model.specs.Calls.{loadTests}
+use Rattle.model.specs.Calls.{noHeader, arraysAfter, loadAnswer, loadTests}
 use Rattle.model.specs.declared.table.Header.{Header}
-use Rattle.model.proofs.Refusals.{or-left, or-right, first-clear, first-skip}
-use Rattle.model.proofs.Tables.{length-from}
+use Rattle.model.specs.declared.reply.LoadReply.{LoadReply}
+use Rattle.model.proofs.Refusals.{or-left, or-right, first-skip, first-here, accepted, refused}
+use Rattle.model.proofs.Tables.{length-from, length-over}
 use Rattle.model.proofs.Rules.{blocks-inside, intervals-inside}
-use Rattle.model.proofs.Holdings.{holdings-same}
+use Rattle.model.proofs.Holdings.{adjustment-same, holdings-same}
 use Rattle.model.proofs.Loads.{written-whole}
-use Rattle.file.specs.Counted.{fileArrays, Counted, Walkable}
-
--- rules 12 to 15
-abbrev pub laterTests : List ℕ → Header → List Test
-laterTests f h =
-    (12, topsWrong h (fileArrays f h .tops))
-    ∷ (13, endsWrong h (fileArrays f h .ends))
-    ∷ (14, blocksWrong h (fileArrays f h .blocks))
-    ∷ (15, holdingsWrong h (fileArrays f h))
-    ∷ []
+use Rattle.file.specs.Loading.{fileArrays, Counted, Opened, Decoded, Settled, loadedOver, Loaded}
+use Rattle.soundness.specs.Passed.{Counted as Rule11, layoutTests, arrayTests, Completed}
 
 module _ (f : List ℕ) (h : Header) (e : h ≡ loadedHeader f) where
   -- rule 11 passed
@@ -45,8 +41,8 @@ module _ (f : List ℕ) (h : Header) (e : h ≡ loadedHeader f) where
       })
 
   -- the others answer
-  pub later : fileWrong f ≡ false → first (loadTests f) ≡ first (laterTests f h)
-  unfolding loadTests loadedArrays readArrays
+  pub later : fileWrong f ≡ false → first (loadTests f) ≡ first (arrayTests h (fileArrays f h))
+  unfolding loadTests loadedArrays readArrays arrayTests layoutTests
   later w =
       first-skip _ _ w
       ∙ ap
@@ -58,17 +54,7 @@ module _ (f : List ℕ) (h : Header) (e : h ≡ loadedHeader f) where
       ∷ (15, b)
       ∷ []))
       (holdings-same (loadedHeader f) _ _ _ _ [])
-      ∙ ap (λ g. first (laterTests f g)) (sym e)
-
-  -- all passed
-  pub walkable : first (loadTests f) ≡ 0 → Walkable f h
-  unfolding loadTests
-  walkable z =
-      let w = first-clear _ _ (λ z. omega arith) z .0 in
-      let t = first-clear _ _ (λ z. omega arith) (sym (later w) ∙ z) in
-      let u = first-clear _ _ (λ z. omega arith) (t .1) in
-      let v = first-clear _ _ (λ z. omega arith) (u .1) in
-      record { counted = counted w; tops = t .0; ends = u .0; blocks = v .0 }
+      ∙ ap (λ g. first (arrayTests g (fileArrays f g))) (sym e)
 
   -- its table is written where each array is
   pub loaded-written
@@ -92,3 +78,124 @@ module _ (f : List ℕ) (h : Header) (e : h ≡ loadedHeader f) where
       ∙ sym
       (written-whole (loadedHeader f) (loadedArrays f) old
       (length-from _ _ _) (length-from _ _ _) (length-from _ _ _) (length-from _ _ _))
+
+-- DECODED ARRAYS
+
+-- all of a list of the length n
+whole : (xs : List ℕ) (n : ℕ) → length xs ≡ n → take n xs ≡ xs
+whole xs n e = ap (λ k. take k xs) (sym e) ∙ take-length xs
+
+-- what stands over the first of a list's entries
+pub taken : (xs old new : List ℕ) (n : ℕ) → new ≡ over xs old → length xs ≡ n → take n new ≡ xs
+unfolding over
+taken xs old new n e l = ap (take n) e ∙ take-at xs (drop (length xs) old) n l
+
+pub taken-length : (xs old new : List ℕ) (n : ℕ) → new ≡ over xs old → length xs ≡ n → n ≡ length (take n new)
+taken-length xs old new n e l = sym (ap length (taken xs old new n e l) ∙ l)
+
+-- the lists keep their lengths
+pub over-long : (xs old new : List ℕ) (n : ℕ) → new ≡ over xs old → length xs ≡ n → n ≤ length old → n ≤ length new
+over-long xs old new n e l m = omega (arith, ap length e, length-over xs old (omega arith))
+
+module _ (h : Header) (tops ends blocks : List ℕ) (d : Decoded h tops ends blocks) where
+  pub decoded-counted : Rule11 h tops ends blocks
+  decoded-counted =
+      record {
+        someBlocks = d .someBlocks;
+        blockLimit = d .blockLimit;
+        someIntervals = d .someIntervals;
+        topsLong = omega (arith, d .topsLength);
+        endsLong = omega (arith, d .endsLength);
+        blocksLong = omega (arith, d .blocksLength);
+      }
+
+  module _ (own own′ : List ℕ) (r : ℕ) (c : Completed h tops ends blocks own r own′) (old : Arrays) where
+    pub settled-refused : (r ≡ 0 → ⊥) → Settled h tops ends blocks old r old
+    settled-refused n =
+        record { refusal = c .answer; refused = λ m. refl; accepted = λ z. absurd (n z) }
+
+    pub completed-long : r ≡ 0 → h .«interval_count» ≤ length own → h .«interval_count» ≤ length own′
+    completed-long z l = over-long _ own own′ _ (c .adjusted z) (length-from _ _ _) l
+
+    pub settled-accepted
+        : r ≡ 0 → (t e b a : List ℕ)
+        → t ≡ over (take (h .«block_count») tops) (old .tops)
+        → e ≡ over (take (h .«interval_count») ends) (old .ends)
+        → b ≡ over (take (h .«interval_count») blocks) (old .blocks)
+        → a ≡ over (take (h .«interval_count») own′) (old .adjustments)
+        → Settled h tops ends blocks old 0 (arrays t e b a)
+    settled-accepted z t e b a p q s u =
+        record {
+          refusal = sym z ∙ c .answer;
+          refused = λ n. absurd (n refl);
+          accepted = λ _ i.
+              arrays
+              ((p ∙ ap (λ xs. over xs (old .tops)) (whole tops _ (d .topsLength))) i)
+              ((q ∙ ap (λ xs. over xs (old .ends)) (whole ends _ (d .endsLength))) i)
+              ((s ∙ ap (λ xs. over xs (old .blocks)) (whole blocks _ (d .blocksLength))) i)
+              ((u ∙ ap (λ xs. over xs (old .adjustments)) (taken _ own own′ _ (c .adjusted z) (length-from _ _ _))) i);
+        }
+
+-- a file's decoded arrays settled
+pub settled-loaded
+    : (f : List ℕ) (h : Header) (out : Arrays) → Opened f h out → (old : Arrays) (r : ℕ) (left : Arrays)
+    → Settled h (fileArrays f h .tops) (fileArrays f h .ends) (fileArrays f h .blocks) old r left → Loaded f old r left
+unfolding loadedOver arraysAfter
+settled-loaded f h out o old r left s =
+    let said = s .refusal ∙ sym (later f h (o .says) (o .passes)) in
+    record {
+      refusal = said;
+      lent =
+          elim (ℕ-discrete r 0) [
+            | yes z ↦
+                s .accepted z
+                ∙ loaded-written f h (o .says) old _ _ _ _ refl refl refl
+                (λ i. over (from (λ k. adjustment-same h (fileArrays f h .ends) (fileArrays f h .blocks) [] (fileArrays f h .tops) [] [] k i) 0 (h .«interval_count»)) (old .adjustments))
+                ∙ sym (accepted (first (loadTests f)) _ _ (sym said ∙ z))
+            | no n ↦ s .refused n ∙ sym (refused (first (loadTests f)) _ _ (λ z. n (said ∙ z)))
+          ];
+    }
+
+-- arrays that hold what a file's do
+module _
+    (f : List ℕ) (h : Header) (out : Arrays) (o : Opened f h out)
+    (t e b : List ℕ) (p : t ≡ fileArrays f h .tops) (q : e ≡ fileArrays f h .ends) (s : b ≡ fileArrays f h .blocks)
+  where
+    pub file-decoded : Decoded h t e b
+    file-decoded =
+        record {
+          someBlocks = o .counted .someBlocks;
+          blockLimit = o .counted .blockLimit;
+          someIntervals = o .counted .someIntervals;
+          intervalLimit = o .counted .intervalLimit;
+          topsLength = ap length p ∙ length-from _ _ _;
+          endsLength = ap length q ∙ length-from _ _ _;
+          blocksLength = ap length s ∙ length-from _ _ _;
+        }
+
+    pub file-loaded : (old : Arrays) (r : ℕ) (left : Arrays) → Settled h t e b old r left → Loaded f old r left
+    file-loaded old r left z = settled-loaded f h out o old r left (rw (← p, ← q, ← s) z)
+
+-- REPLIES
+
+pub file-refused
+    : (f : List ℕ) (old : Arrays) → fileWrong f ≡ true
+    → (record { refusal = 11; header = noHeader } ≡ loadAnswer (first (loadTests f)) (loadedHeader f)) × (old ≡ loadedOver f old)
+unfolding loadTests loadedOver arraysAfter
+file-refused f old w =
+    let eleven : first (loadTests f) ≡ 11 = first-here (11, fileWrong f) _ w in
+    let never : first (loadTests f) ≡ 0 → ⊥ = λ z. omega arith in (
+      ap (λ r. record { refusal = r; header = noHeader }) (sym eleven) ∙ sym (refused (first (loadTests f)) _ _ never),
+      sym (refused (first (loadTests f)) _ _ never),
+    )
+
+pub loaded-replied
+    : (f : List ℕ) (h : Header) (old left : Arrays) (r : ℕ) (z : LoadReply)
+    → h ≡ loadedHeader f → Loaded f old r left → z ≡ loadAnswer r h
+    → (z ≡ loadAnswer (first (loadTests f)) (loadedHeader f)) × (left ≡ loadedOver f old)
+loaded-replied f h old left r z e l d = (d ∙ ap₂ loadAnswer (l .refusal) e, l .lent)
+
+-- a file that passes 11, with arrays that have room
+pub opened
+    : (f : List ℕ) (h : Header) (out : Arrays) → h ≡ loadedHeader f → fileWrong f ≡ false → roomShort out ≡ false → Opened f h out
+opened f h out e w r = record { says = e; passes = w; counted = counted f h e w; room = r }

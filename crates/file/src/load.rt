@@ -1,25 +1,26 @@
-// Loading: rules 11 to 15 of document 01 over a file's bytes, and the table that an accepted file gives. Nothing is
-// copied before every rule has passed. `h` is the header that the file says.
+// Loading: a file's numbers are decoded into arrays of one's own, judged as those of a lent table are, and written out after
+// every rule has passed. `h` is the header that the file says.
 use crate::number::header_of;
 use crate::number::number_at;
+use model::reply::LoadReply;
 use model::table::Header;
+use soundness::complete;
 use soundness::header_outside;
-use table::due_below;
+use table::copy;
 ghost use mathlib.Core.Path.{_≡_};
 ghost use mathlib.Core.Bool.{false};
-ghost use Prim.Native.Nat.{ℕ, _+_, _*_, _≤_, _<_};
-ghost use lib.ListN.{length, getD};
+ghost use Prim.Native.Nat.{_+_, _*_, _≤_};
+ghost use lib.ListN.{length};
 ghost use Rattle.model.specs.Lent.{given, left, arraysNow};
 ghost use Rattle.model.specs.Basics.{from};
-ghost use Rattle.model.specs.Table.{table, over, written};
-ghost use Rattle.model.specs.Place.{held};
-ghost use Rattle.model.specs.Refusal.{rises, topsWrong, endsWrong, blocksWrong, holdingsWrong, adjustmentOf, roomShort, first};
-ghost use Rattle.model.specs.Saved.{number, loadedHeader, loadedArrays, fileWrong};
-ghost use Rattle.model.specs.Calls.{loadTests};
-ghost use Rattle.file.specs.Counted.{fileArrays, Counted, Walkable};
+ghost use Rattle.model.specs.Table.{over};
+ghost use Rattle.model.specs.Refusal.{roomShort, first};
+ghost use Rattle.model.specs.Saved.{number, loadedHeader, fileWrong};
+ghost use Rattle.model.specs.Calls.{loadAnswer, loadTests};
+ghost use Rattle.file.specs.Loading.{fileArrays, Counted, Opened, Own, Decoded, Settled, loadedOver, Loaded};
 
 // 11: B, G or k outside its limits, or a file of another length.
-pub fn file_wrong(f: &[u8]) -> bool
+fn file_wrong(f: &[u8]) -> bool
     ensures { λ r. ⌜ r ≡ fileWrong (now (f .entry)) ⌝ }
 {
     if f.len() < 12 {
@@ -30,137 +31,6 @@ pub fn file_wrong(f: &[u8]) -> bool
         return true;
     }
     f.len() != 12 + 4 * (h.block_count as usize) + 8 * (h.interval_count as usize)
-}
-
-// Whether `count` numbers of the file, from number `first` on, rise strictly, and the first of them is not 0.
-fn rising(f: &[u8], first: usize, count: usize) -> bool
-    requires { ⌜ 4 * (first + count) ≤ length (now f) ⌝ }
-    ensures { λ r. ⌜ r ≡ rises (from (number (now (f .entry))) first count) count ⌝ }
-{
-    let mut ok = true;
-    let mut last: u32 = 0;
-    let mut i: usize = 0;
-    while i < count {
-        let x = number_at(f, first + i);
-        if x <= last {
-            ok = false;
-        }
-        last = x;
-        i += 1;
-    }
-    ok
-}
-
-// 12: tops that don't rise strictly, a first top of 0, a last top above its limit or above B.
-pub fn tops_wrong(h: Header, f: &[u8]) -> bool
-    requires { ⌜ Counted (now f) h ⌝ }
-    ensures { λ r. ⌜ r ≡ topsWrong h (fileArrays (now (f .entry)) h .tops) ⌝ }
-{
-    let count = h.block_count as usize;
-    if !rising(f, 3, count) {
-        return true;
-    }
-    let bins = number_at(f, 2 + count);
-    if 65_535 < bins {
-        return true;
-    }
-    h.buckets < bins
-}
-
-// 13: ends that don't rise strictly, a first end of 0, or a last end other than B.
-pub fn ends_wrong(h: Header, f: &[u8]) -> bool
-    requires { ⌜ Counted (now f) h ⌝ }
-    ensures { λ r. ⌜ r ≡ endsWrong h (fileArrays (now (f .entry)) h .ends) ⌝ }
-{
-    let first = 3 + h.block_count as usize;
-    let count = h.interval_count as usize;
-    if !rising(f, first, count) {
-        return true;
-    }
-    number_at(f, first + count - 1) != h.buckets
-}
-
-// 14: an interval's block not below G.
-pub fn blocks_wrong(h: Header, f: &[u8]) -> bool
-    requires { ⌜ Counted (now f) h ⌝ }
-    ensures { λ r. ⌜ r ≡ blocksWrong h (fileArrays (now (f .entry)) h .blocks) ⌝ }
-{
-    let count = h.interval_count as usize;
-    let first = 3 + h.block_count as usize + count;
-    let mut wrong = false;
-    let mut i: usize = 0;
-    while i < count {
-        if h.block_count <= number_at(f, first + i) {
-            wrong = true;
-        }
-        i += 1;
-    }
-    wrong
-}
-
-// How many buckets each block holds.
-fn holdings(h: Header, f: &[u8]) -> [u32; 65]
-    requires { ⌜ Walkable (now f) h ⌝ }
-    ensures { λ r. ⌜ ((j : ℕ) → j < 65 → getD r j 0 ≡ held (table h (fileArrays (now (f .entry)) h)) j (h .buckets)) ⌝ }
-{
-    let first_end = 3 + h.block_count as usize;
-    let first_block = first_end + h.interval_count as usize;
-    let mut sums = [0u32; 65];
-    let mut start: u32 = 0;
-    let mut i: usize = 0;
-    while i < h.interval_count as usize {
-        let end = number_at(f, first_end + i);
-        let block = number_at(f, first_block + i) as usize;
-        sums[block] += end - start;
-        start = end;
-        i += 1;
-    }
-    sums
-}
-
-// 15: a block whose intervals hold another number than its due.
-pub fn holdings_wrong(h: Header, f: &[u8]) -> bool
-    requires { ⌜ Walkable (now f) h ⌝ }
-    ensures { λ r. ⌜ r ≡ holdingsWrong h (fileArrays (now (f .entry)) h) ⌝ }
-{
-    let sums = holdings(h, f);
-    let bins = number_at(f, 2 + h.block_count as usize);
-    let quotient = h.buckets / bins;
-    let remainder = h.buckets % bins;
-    let mut below: u32 = 0;
-    let mut j: usize = 0;
-    while j < h.block_count as usize {
-        let through = due_below(quotient, remainder, number_at(f, 3 + j));
-        if sums[j] != through - below {
-            return true;
-        }
-        below = through;
-        j += 1;
-    }
-    false
-}
-
-// The number of the first of rules 11 to 15 that the file breaks, or 0.
-pub fn check_file(f: &[u8]) -> u32
-    ensures { λ r. ⌜ r ≡ first (loadTests (now (f .entry))) ⌝ }
-{
-    if file_wrong(f) {
-        return 11;
-    }
-    let h = header_of(f);
-    if tops_wrong(h, f) {
-        return 12;
-    }
-    if ends_wrong(h, f) {
-        return 13;
-    }
-    if blocks_wrong(h, f) {
-        return 14;
-    }
-    if holdings_wrong(h, f) {
-        return 15;
-    }
-    0
 }
 
 // Writes `count` numbers of the file, from number `first` on, over the first entries of an array.
@@ -175,46 +45,194 @@ fn copy_numbers(f: &[u8], first: usize, count: usize, out: &mut [u32])
     }
 }
 
-// Works out the adjustments: an interval's start less what its block holds before it.
-fn write_adjustments(h: Header, f: &[u8], adjustments: &mut [u32])
-    requires { ⌜ (Walkable (now f) h) × (h .«interval_count» ≤ length (now adjustments)) ⌝ }
-    ensures { λ _. ⌜ now (adjustments .exit)
-        ≡ over (from (adjustmentOf h (fileArrays (now (f .entry)) h)) 0 (h .«interval_count»)) (now (adjustments .entry)) ⌝ }
+// Decodes a file's tops, ends and blocks over the first entries of arrays.
+fn decode(f: &[u8], h: Header, tops: &mut [u32], ends: &mut [u32], blocks: &mut [u32])
+    requires { ⌜ (Counted (now f) h)
+        × (h .«block_count» ≤ length (now tops))
+        × (h .«interval_count» ≤ length (now ends))
+        × (h .«interval_count» ≤ length (now blocks)) ⌝ }
+    ensures tops { λ _. ⌜ now (tops .exit) ≡ over (fileArrays (now (f .entry)) h .tops) (now (tops .entry)) ⌝ }
+    ensures ends { λ _. ⌜ now (ends .exit) ≡ over (fileArrays (now (f .entry)) h .ends) (now (ends .entry)) ⌝ }
+    ensures blocks { λ _. ⌜ now (blocks .exit) ≡ over (fileArrays (now (f .entry)) h .blocks) (now (blocks .entry)) ⌝ }
 {
-    let first_end = 3 + h.block_count as usize;
-    let first_block = first_end + h.interval_count as usize;
-    let mut sums = [0u32; 65];
-    let mut start: u32 = 0;
-    let mut i: usize = 0;
-    while i < h.interval_count as usize {
-        let end = number_at(f, first_end + i);
-        let block = number_at(f, first_block + i) as usize;
-        adjustments[i] = start - sums[block];
-        sums[block] += end - start;
-        start = end;
-        i += 1;
-    }
-}
-
-// Writes the table of a file that passes every test into arrays with room for any table.
-pub fn write_loaded(
-    f: &[u8],
-    tops: &mut [u32],
-    ends: &mut [u32],
-    blocks: &mut [u32],
-    adjustments: &mut [u32],
-)
-    requires { ⌜ (first (loadTests (now f)) ≡ 0)
-        × (roomShort (arraysNow tops ends blocks adjustments) ≡ false) ⌝ }
-    ensures { λ _. ⌜ left tops ends blocks adjustments
-        ≡ written (table (loadedHeader (now (f .entry))) (loadedArrays (now (f .entry))))
-        (given tops ends blocks adjustments) ⌝ }
-{
-    let h = header_of(f);
     let block_count = h.block_count as usize;
     let interval_count = h.interval_count as usize;
     copy_numbers(f, 3, block_count, tops);
     copy_numbers(f, 3 + block_count, interval_count, ends);
     copy_numbers(f, 3 + block_count + interval_count, interval_count, blocks);
-    write_adjustments(h, f, adjustments);
+}
+
+// The number of the first of rules 12 to 15 that decoded arrays break, or 0; then their table is written.
+fn settle(
+    h: Header,
+    own_tops: &[u32],
+    own_ends: &[u32],
+    own_blocks: &[u32],
+    own_adjustments: &mut [u32],
+    tops: &mut [u32],
+    ends: &mut [u32],
+    blocks: &mut [u32],
+    adjustments: &mut [u32],
+) -> u32
+    requires { ⌜ Decoded h (now «own_tops») (now «own_ends») (now «own_blocks») ⌝ }
+    requires { ⌜ (h .«interval_count» ≤ length (now «own_adjustments»)) × (roomShort (arraysNow tops ends blocks adjustments) ≡ false) ⌝ }
+    ensures { λ r.
+        ⌜
+        Settled h (now («own_tops» .entry)) (now («own_ends» .entry)) (now («own_blocks» .entry))
+        (given tops ends blocks adjustments) r (left tops ends blocks adjustments)
+        ⌝ }
+{
+    let broken = complete(h, own_tops, own_ends, own_blocks, own_adjustments);
+    if broken != 0 {
+        return broken;
+    }
+    let block_count = h.block_count as usize;
+    let interval_count = h.interval_count as usize;
+    copy(own_tops, block_count, tops);
+    copy(own_ends, interval_count, ends);
+    copy(own_blocks, interval_count, blocks);
+    copy(own_adjustments, interval_count, adjustments);
+    0
+}
+
+// Loads a file that is decoded into the first four arrays.
+fn load_by(
+    f: &[u8],
+    h: Header,
+    own_tops: &mut [u32],
+    own_ends: &mut [u32],
+    own_blocks: &mut [u32],
+    own_adjustments: &mut [u32],
+    tops: &mut [u32],
+    ends: &mut [u32],
+    blocks: &mut [u32],
+    adjustments: &mut [u32],
+) -> u32
+    requires { ⌜ Opened (now f) h (arraysNow tops ends blocks adjustments) ⌝ }
+    requires { ⌜ Own h (arraysNow «own_tops» «own_ends» «own_blocks» «own_adjustments») ⌝ }
+    ensures { λ r. ⌜ Loaded (now (f .entry)) (given tops ends blocks adjustments) r (left tops ends blocks adjustments) ⌝ }
+{
+    let g = h.block_count as usize;
+    let k = h.interval_count as usize;
+    decode(f, h, own_tops, own_ends, own_blocks);
+    settle(
+        h,
+        &own_tops[..g],
+        &own_ends[..k],
+        &own_blocks[..k],
+        own_adjustments,
+        tops,
+        ends,
+        blocks,
+        adjustments,
+    )
+}
+
+// A file of at most 64 intervals: small arrays, which are cleared quickly.
+fn load_few(
+    f: &[u8],
+    h: Header,
+    tops: &mut [u32],
+    ends: &mut [u32],
+    blocks: &mut [u32],
+    adjustments: &mut [u32],
+) -> u32
+    requires { ⌜ Opened (now f) h (arraysNow tops ends blocks adjustments) ⌝ }
+    requires { ⌜ h .«interval_count» ≤ 64 ⌝ }
+    ensures { λ r. ⌜ Loaded (now (f .entry)) (given tops ends blocks adjustments) r (left tops ends blocks adjustments) ⌝ }
+{
+    let mut own_tops = [0u32; 65];
+    let mut own_ends = [0u32; 64];
+    let mut own_blocks = [0u32; 64];
+    let mut own_adjustments = [0u32; 64];
+    load_by(
+        f,
+        h,
+        &mut own_tops,
+        &mut own_ends,
+        &mut own_blocks,
+        &mut own_adjustments,
+        tops,
+        ends,
+        blocks,
+        adjustments,
+    )
+}
+
+// A file of any number of intervals.
+fn load_many(
+    f: &[u8],
+    h: Header,
+    tops: &mut [u32],
+    ends: &mut [u32],
+    blocks: &mut [u32],
+    adjustments: &mut [u32],
+) -> u32
+    requires { ⌜ Opened (now f) h (arraysNow tops ends blocks adjustments) ⌝ }
+    ensures { λ r. ⌜ Loaded (now (f .entry)) (given tops ends blocks adjustments) r (left tops ends blocks adjustments) ⌝ }
+{
+    let mut own_tops = [0u32; 65];
+    let mut own_ends = [0u32; 2081];
+    let mut own_blocks = [0u32; 2081];
+    let mut own_adjustments = [0u32; 2081];
+    load_by(
+        f,
+        h,
+        &mut own_tops,
+        &mut own_ends,
+        &mut own_blocks,
+        &mut own_adjustments,
+        tops,
+        ends,
+        blocks,
+        adjustments,
+    )
+}
+
+// The reply of a load: its header where it is accepted.
+fn reply(refusal: u32, h: Header) -> LoadReply
+    ensures { λ r. ⌜ r ≡ loadAnswer refusal h ⌝ }
+{
+    if refusal == 0 {
+        return LoadReply { refusal, header: h };
+    }
+    LoadReply {
+        refusal,
+        header: Header {
+            buckets: 0,
+            block_count: 0,
+            interval_count: 0,
+        },
+    }
+}
+
+// Loads a file into arrays with room for any table.
+pub fn loaded(
+    f: &[u8],
+    tops: &mut [u32],
+    ends: &mut [u32],
+    blocks: &mut [u32],
+    adjustments: &mut [u32],
+) -> LoadReply
+    requires { ⌜ roomShort (arraysNow tops ends blocks adjustments) ≡ false ⌝ }
+    ensures { λ r. ⌜ r ≡ loadAnswer (first (loadTests (now (f .entry)))) (loadedHeader (now (f .entry))) ⌝ }
+    ensures { λ _. ⌜ left tops ends blocks adjustments ≡ loadedOver (now (f .entry)) (given tops ends blocks adjustments) ⌝ }
+{
+    if file_wrong(f) {
+        return LoadReply {
+            refusal: 11,
+            header: Header {
+                buckets: 0,
+                block_count: 0,
+                interval_count: 0,
+            },
+        };
+    }
+    let h = header_of(f);
+    if h.interval_count <= 64 {
+        let refusal = load_few(f, h, tops, ends, blocks, adjustments);
+        return reply(refusal, h);
+    }
+    let refusal = load_many(f, h, tops, ends, blocks, adjustments);
+    reply(refusal, h)
 }

@@ -1,23 +1,24 @@
 -- Laws of the calls' replies: what a refusal by the table's tests, or by the tests after them, makes of each. Assumes nothing.
 use Prim.Native.Nat.{ℕ, _+_, _*_, _≤_, _<_}
-use mathlib.Core.Path.{_≡_, sym, _∙_, ap}
+use mathlib.Core.Path.{_≡_, refl, sym, _∙_, ap}
 use mathlib.Core.Bool.{true, false}
 use mathlib.Core.List.{List, [], _++_}
 use mathlib.Core.Logic.{⊎-elim}
 use native.Mathlib.Omega.{arith}
 use lib.ListN.{length}
-use borrow.Author.Tests.{lt-ltb, le-ltb, le-leb, lt-leb, eqb-true, not-false}
+use borrow.Author.Tests.{lt-ltb, le-ltb, le-leb, lt-leb}
 use Rattle.model.specs.Basics.{if_then_else_}
 use Rattle.model.specs.Table.{Shape, Arrays, arrays, table, header, over, written}
 use Rattle.model.specs.Refusal.{Test, first, roomShort}
 use Rattle.model.specs.Search.{placeAt}
 use Rattle.model.specs.Sound.{Sound}
 use Rattle.model.specs.Initial.{initial}
-use Rattle.model.specs.Saved.{saved, savedLength, loadedHeader, loadedArrays, fileWrong}
-use Rattle.model.specs.Calls.{answer, noHeader, tableTests, sizeTests, tableReply, arraysAfter, initialRefusal, initialReply, initialArrays, saveTests, saveRefusal, saveReply, saveBytes, loadTests, loadRefusal, loadReply, loadArrays, placeAnswer, placeTests, placeReply, findAnswer, findTests, findReply, binSizeAnswer, binSizeTests, binSizeReply}
+use Rattle.model.specs.Saved.{saved, savedLength, loadedHeader, loadedArrays}
+use Rattle.model.specs.Calls.{answer, noHeader, tableTests, sizeTests, tableReply, arraysAfter, initialRefusal, initialReply, initialArrays, saveTests, saveRefusal, saveReply, saveBytes, loadTests, loadRefusal, loadAnswer, loadReply, loadArrays, placeAnswer, placeTests, placeReply, findAnswer, findTests, findReply, binSizeAnswer, binSizeTests, binSizeReply}
 use Rattle.model.specs.declared.table.Header.{Header}
 use Rattle.model.proofs.Counts.{below-or}
-use Rattle.model.proofs.Refusals.{or-right, first-clear, first-here, first-skip, first-found, first-after, accepted, refused}
+use Rattle.model.proofs.Refusals.{first-here, first-skip, first-found, first-after, accepted, refused}
+use Rattle.file.specs.Loading.{loadedOver}
 use Rattle.model.proofs.Bytes.{saved-same}
 use Rattle.model.proofs.Soundness.{sound-iff, table-numbered}
 use Rattle.model.proofs.Searches.{place-answered}
@@ -140,24 +141,14 @@ module _ (f : List ℕ) (out : Arrays) where
   unfolding loadReply loadArrays arraysAfter
   load-refused r e n = (rw (← e) (sym (refused r _ _ n)), rw (← e) (sym (refused r _ _ n)))
 
-  pub load-accepted
-      : (r : ℕ) (h : Header) → r ≡ loadRefusal f out → r ≡ 0 → h ≡ loadedHeader f
-      → (record { refusal = 0; header = h } ≡ loadReply f out)
-      × (written (table (loadedHeader f) (loadedArrays f)) out ≡ loadArrays f out)
-  unfolding loadReply loadArrays arraysAfter
-  load-accepted r h e z d = (
-    ap (λ h. record { refusal = 0; header = h }) d ∙ sym (accepted (loadRefusal f out) _ _ (sym e ∙ z)),
-    sym (accepted (loadRefusal f out) _ _ (sym e ∙ z)),
-  )
-
--- an accepted file holds its header
-pub load-long : (f : List ℕ) → first (loadTests f) ≡ 0 → 12 ≤ length f
-unfolding loadTests fileWrong savedLength
-load-long f e =
-    let c = first-clear (11, fileWrong f) _ (λ z. omega arith) e in
-    let same : length f ≡ 12 + 4 * loadedHeader f .«block_count» + 8 * loadedHeader f .«interval_count» =
-    eqb-true _ _ (not-false _ (or-right _ _ (c .0))) in
-    omega arith
+  -- with room, the file's tests answer
+  pub load-later
+      : roomShort out ≡ false
+      → (loadAnswer (first (loadTests f)) (loadedHeader f) ≡ loadReply f out) × (loadedOver f out ≡ loadArrays f out)
+  unfolding loadReply loadArrays loadedOver
+  load-later w =
+      let same : first (loadTests f) ≡ loadRefusal f out = load-tests (first (loadTests f)) w refl in
+      (ap (λ r. loadAnswer r (loadedHeader f)) same, ap (λ r. arraysAfter r (table (loadedHeader f) (loadedArrays f)) out) same)
 
 -- the saved form does not read the adjustments
 pub save-written

@@ -256,15 +256,7 @@ pub fn load(
     if sizes::room_short(tops, ends, blocks, adjustments) {
         return refused_load(21);
     }
-    let broken = file::load::check_file(bytes);
-    if broken != 0 {
-        return refused_load(broken);
-    }
-    file::load::write_loaded(bytes, tops, ends, blocks, adjustments);
-    LoadReply {
-        refusal: 0,
-        header: file::number::header_of(bytes),
-    }
+    file::load::loaded(bytes, tops, ends, blocks, adjustments)
 }
 
 fn refused_load(refusal: u32) -> LoadReply

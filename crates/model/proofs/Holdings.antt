@@ -56,15 +56,18 @@ module _ (h : Header) (e b : List ℕ) where
       (all-ext _ _ (h .«block_count»)
       (λ j l. ap (λ v. eqb v (dueOfBlock (shape (table h (arrays t e b c))) t j)) (held-same t t c c′ j (h .buckets))))
 
+  pub adjustment-same
+      : (t t′ c c′ : List ℕ) (i : ℕ) → adjustmentOf h (arrays t e b c) i ≡ adjustmentOf h (arrays t′ e b c′) i
+  unfolding adjustmentOf
+  adjustment-same t t′ c c′ i =
+      let j = getD b i 0 in
+      let m = before e i in
+      omega (arith, held-same t t′ c c′ j m, held-others h (arrays t e b c) j m, held-others h (arrays t′ e b c′) j m)
+
   pub adjustments-same : (t t′ c : List ℕ) → adjustmentsWrong h (arrays t e b c) ≡ adjustmentsWrong h (arrays t′ e b c)
-  unfolding adjustmentsWrong adjustmentOf
+  unfolding adjustmentsWrong
   adjustments-same t t′ c =
-      ap not (all-ext _ _ (h .«interval_count») (λ i l. ap (eqb (getD c i 0)) (others-same (getD b i 0) (before e i))))
-    where
-      others-same : (j m : ℕ) → others (table h (arrays t e b c)) j m ≡ others (table h (arrays t′ e b c)) j m
-      others-same j m =
-          omega
-          (arith, held-same t t′ c c j m, held-others h (arrays t e b c) j m, held-others h (arrays t′ e b c) j m)
+      ap not (all-ext _ _ (h .«interval_count») (λ i l. ap (eqb (getD c i 0)) (adjustment-same t t′ c c i)))
 
 -- THE ARRAY OF SUMS
 

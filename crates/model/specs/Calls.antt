@@ -219,11 +219,12 @@ loadTests f =
 unfoldable pub loadRefusal : List ℕ → Arrays → ℕ
 loadRefusal f out = first ((21, roomShort out) ∷ loadTests f)
 
+-- the reply where the refusal is r and the file says the header h
+abbrev pub loadAnswer : ℕ → Header → LoadReply
+loadAnswer r h = answer r (record { refusal = 0; header = h }) (record { refusal = r; header = noHeader })
+
 unfoldable pub loadReply : List ℕ → Arrays → LoadReply
-loadReply f out =
-    answer (loadRefusal f out)
-    (record { refusal = 0; header = loadedHeader f })
-    (record { refusal = loadRefusal f out; header = noHeader })
+loadReply f out = loadAnswer (loadRefusal f out) (loadedHeader f)
 
 unfoldable pub loadArrays : List ℕ → Arrays → Arrays
 loadArrays f out = arraysAfter (loadRefusal f out) (table (loadedHeader f) (loadedArrays f)) out

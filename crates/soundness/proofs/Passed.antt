@@ -1,30 +1,72 @@
 -- The records of specs/Passed from the tests of rules 11 to 14 that do not hold. Assumes nothing.
-use mathlib.Core.Path.{_≡_}
+use Prim.Native.Nat.{ℕ}
+use mathlib.Core.Path.{_≡_, _∙_}
 use mathlib.Core.Bool.{false}
+use mathlib.Core.List.{List, _++_}
 use native.Mathlib.Omega.{arith}
 use Rattle.model.specs.Table.{Arrays}
-use Rattle.model.specs.Refusal.{headerOutside, arraysShort, topsWrong, endsWrong, blocksWrong}
+use Rattle.model.specs.Refusal.{Test, first, headerOutside, arraysShort, topsWrong, endsWrong, blocksWrong}
 use Rattle.model.specs.declared.table.Header.{Header}
-use Rattle.model.proofs.Rules.{blocks-inside, tops-long, ends-long, blocks-long, tops-rise, ends-rise, last-end, blocks-below}
-use Rattle.soundness.specs.Passed.{TopsRight, IntervalsRight}
+use Rattle.model.proofs.Refusals.{first-clear, first-skip}
+use Rattle.model.proofs.Rules.{
+  blocks-inside,
+  intervals-inside,
+  tops-long,
+  ends-long,
+  blocks-long,
+  tops-rise,
+  ends-rise,
+  last-end,
+  blocks-below,
+}
+use Rattle.soundness.specs.Passed.{Counted, layoutTests, TopsRight, IntervalsRight}
 
-module _ (h : Header) (a : Arrays) (inside : headerOutside h ≡ false) (long : arraysShort h a ≡ false) where
-  pub tops-right : topsWrong h (a .tops) ≡ false → TopsRight h (a .tops)
-  tops-right w =
-      record {
-        some = blocks-inside h inside .0;
-        few = blocks-inside h inside .1;
-        long = tops-long h a long;
-        rise = tops-rise h (a .tops) w;
-      }
+-- 11 of a lent table
+pub lent-counted
+    : (h : Header) (a : Arrays) → headerOutside h ≡ false → arraysShort h a ≡ false → Counted h (a .tops) (a .ends) (a .blocks)
+lent-counted h a inside long =
+    record {
+      someBlocks = blocks-inside h inside .0;
+      blockLimit = blocks-inside h inside .1;
+      someIntervals = intervals-inside h inside .0;
+      topsLong = tops-long h a long;
+      endsLong = ends-long h a long;
+      blocksLong = blocks-long h a long;
+    }
 
-  pub intervals-right
-      : endsWrong h (a .ends) ≡ false → blocksWrong h (a .blocks) ≡ false → IntervalsRight h (a .ends) (a .blocks)
-  intervals-right v w =
+-- 12 to 14, where their tests do not hold
+pub record Laid (h : Header) (tops ends blocks : List ℕ) : Type 0 where
+  pub topsPass : topsWrong h tops ≡ false
+  pub endsPass : endsWrong h ends ≡ false
+  pub blocksPass : blocksWrong h blocks ≡ false
+
+pub laid : (h : Header) (tops ends blocks : List ℕ) → first (layoutTests h tops ends blocks) ≡ 0 → Laid h tops ends blocks
+unfolding layoutTests
+laid h tops ends blocks e =
+    let t = first-clear _ _ (λ z. omega arith) e in
+    let u = first-clear _ _ (λ z. omega arith) (t .1) in
+    let v = first-clear _ _ (λ z. omega arith) (u .1) in
+    record { topsPass = t .0; endsPass = u .0; blocksPass = v .0 }
+
+-- then the tests after them answer
+pub layout-after
+    : (h : Header) (tops ends blocks : List ℕ) (us : List Test) → first (layoutTests h tops ends blocks) ≡ 0
+    → first (layoutTests h tops ends blocks ++ us) ≡ first us
+unfolding layoutTests
+layout-after h tops ends blocks us e =
+    let w = laid h tops ends blocks e in
+    first-skip _ _ (w .topsPass) ∙ first-skip _ _ (w .endsPass) ∙ first-skip _ _ (w .blocksPass)
+
+module _ (h : Header) (tops ends blocks : List ℕ) (c : Counted h tops ends blocks) (w : Laid h tops ends blocks) where
+  pub tops-right : TopsRight h tops
+  tops-right = record { some = c .someBlocks; few = c .blockLimit; long = c .topsLong; rise = tops-rise h tops (w .topsPass) }
+
+  pub intervals-right : IntervalsRight h ends blocks
+  intervals-right =
       record {
-        endsLong = ends-long h a long;
-        blocksLong = blocks-long h a long;
-        rise = ends-rise h (a .ends) v;
-        last = last-end h (a .ends) v;
-        blocksBelow = λ i l. omega (arith, blocks-inside h inside, blocks-below h (a .blocks) w i l);
+        endsLong = c .endsLong;
+        blocksLong = c .blocksLong;
+        rise = ends-rise h ends (w .endsPass);
+        last = last-end h ends (w .endsPass);
+        blocksBelow = λ i l. omega (arith, c .blockLimit, blocks-below h blocks (w .blocksPass) i l);
       }

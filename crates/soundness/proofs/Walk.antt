@@ -49,7 +49,7 @@ one-before bad x = omega (arith, or-add-and bad x, and-le-r bad x)
 one-now : (bad a b : ℕ) → (a ≡ b → ⊥) → 0 < bitOr bad (bitXor a b)
 one-now bad a b n =
     elim (ℕ-discrete (bitXor a b) 0) [
-      yes y ↦ absurd (n (omega (arith, xor-add-and a b, and-le-l a b, and-le-r a b)))
+      | yes y ↦ absurd (n (omega (arith, xor-add-and a b, and-le-l a b, and-le-r a b)))
       | no m ↦ omega (arith, or-add-and bad (bitXor a b), and-le-l bad (bitXor a b))
     ]
 
@@ -140,7 +140,7 @@ module _
         → Walked h a (i + 1) (getD ends i 0) (set sums (getD blocks i 0) v) (bitOr bad (bitXor cell r))
     walked-more (inl q) =
         elim (ℕ-discrete (getD adjustments i 0) (adjustmentOf h a i)) [
-          yes y ↦ inl (next-right q y)
+          | yes y ↦ inl (next-right q y)
           | no n ↦ inr (next-wrong q n)
         ]
     walked-more (inr w) =

@@ -1,13 +1,30 @@
 -- What earlier rules of the check have shown of a lent table, for the functions of the later ones. Assumes nothing.
 use Prim.Native.Nat.{ℕ, _≤_, _<_}
 use mathlib.Core.Path.{_≡_}
-use mathlib.Core.List.{List, []}
+use mathlib.Core.List.{List, [], _∷_, _++_}
 use lib.ListN.{length, getD}
-use Rattle.model.specs.Basics.{before}
+use Rattle.model.specs.Basics.{from, before}
 use Rattle.model.specs.Limits.{maxBlocks}
-use Rattle.model.specs.Table.{arrays, table}
+use Rattle.model.specs.Table.{Arrays, arrays, table, over}
 use Rattle.model.specs.Place.{held}
+use Rattle.model.specs.Refusal.{Test, first, topsWrong, endsWrong, blocksWrong, holdingsWrong, adjustmentOf}
 use Rattle.model.specs.declared.table.Header.{Header}
+
+-- 11: counts within their limits, and arrays that have them
+pub record Counted (h : Header) (tops ends blocks : List ℕ) : Type 0 where
+  pub someBlocks : 1 ≤ h .«block_count»
+  pub blockLimit : h .«block_count» ≤ maxBlocks
+  pub someIntervals : 1 ≤ h .«interval_count»
+  pub topsLong : h .«block_count» ≤ length tops
+  pub endsLong : h .«interval_count» ≤ length ends
+  pub blocksLong : h .«interval_count» ≤ length blocks
+
+-- the tests of 12 to 14, and with that of 15: those that a lent table and a file share
+unfoldable pub layoutTests : Header → List ℕ → List ℕ → List ℕ → List Test
+layoutTests h tops ends blocks = (12, topsWrong h tops) ∷ (13, endsWrong h ends) ∷ (14, blocksWrong h blocks) ∷ []
+
+unfoldable pub arrayTests : Header → Arrays → List Test
+arrayTests h a = layoutTests h (a .tops) (a .ends) (a .blocks) ++ ((15, holdingsWrong h a) ∷ [])
 
 -- 11 and 12
 pub record TopsRight (h : Header) (tops : List ℕ) : Type 0 where
@@ -27,3 +44,9 @@ pub record IntervalsRight (h : Header) (ends blocks : List ℕ) : Type 0 where
 -- cell j of `sums` has the number of buckets that block j holds
 pub record Held (h : Header) (ends blocks sums : List ℕ) : Type 0 where
   pub cell : (j : ℕ) → j < maxBlocks → getD sums j 0 ≡ held (table h (arrays [] ends blocks [])) j (h .buckets)
+
+-- what rules 12 to 15 say of arrays without adjustments; where they pass, `left` has the adjustments over the first of `old`
+pub record Completed (h : Header) (tops ends blocks old : List ℕ) (r : ℕ) (left : List ℕ) : Type 0 where
+  pub answer : r ≡ first (arrayTests h (arrays tops ends blocks []))
+  pub adjusted
+      : r ≡ 0 → left ≡ over (from (adjustmentOf h (arrays [] ends blocks [])) 0 (h .«interval_count»)) old

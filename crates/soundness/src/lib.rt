@@ -8,8 +8,9 @@ ghost use mathlib.Core.List.{List, []};
 ghost use Prim.Native.Nat.{ℕ, _≤_};
 ghost use lib.ListN.{length, replicate};
 ghost use Rattle.model.specs.Lent.{given};
+ghost use Rattle.model.specs.Basics.{from};
 ghost use Rattle.model.specs.Limits.{maxBlocks};
-ghost use Rattle.model.specs.Table.{arrays};
+ghost use Rattle.model.specs.Table.{arrays, over};
 ghost use Rattle.model.specs.Refusal.{
   outside,
   rises,
@@ -19,11 +20,12 @@ ghost use Rattle.model.specs.Refusal.{
   endsWrong,
   blocksWrong,
   holdingsWrong,
+  adjustmentOf,
   adjustmentsWrong,
   first,
 };
 ghost use Rattle.model.specs.Calls.{tableTests};
-ghost use Rattle.soundness.specs.Passed.{TopsRight, IntervalsRight, Held};
+ghost use Rattle.soundness.specs.Passed.{Counted, layoutTests, TopsRight, IntervalsRight, Held, Completed};
 
 // Whether x is 0 or above its limit.
 fn is_outside(limit: u32, x: u32) -> bool
@@ -115,15 +117,30 @@ fn blocks_wrong(h: Header, blocks: &[u32]) -> bool
     requires { ⌜ h .«interval_count» ≤ length (now blocks) ⌝ }
     ensures { λ r. ⌜ r ≡ blocksWrong h (now (blocks .entry)) ⌝ }
 {
-    let mut wrong = false;
+    let mut ok = true;
     let mut i: usize = 0;
     while i < h.interval_count as usize {
-        if h.block_count <= blocks[i] {
-            wrong = true;
-        }
+        ok = ok & (blocks[i] < h.block_count);
         i += 1;
     }
-    wrong
+    !ok
+}
+
+// The number of the first of rules 12 to 14 that the arrays break, or 0.
+fn layout_refusal(h: Header, tops: &[u32], ends: &[u32], blocks: &[u32]) -> u32
+    requires { ⌜ Counted h (now tops) (now ends) (now blocks) ⌝ }
+    ensures { λ r. ⌜ r ≡ first (layoutTests h (now (tops .entry)) (now (ends .entry)) (now (blocks .entry))) ⌝ }
+{
+    if tops_wrong(h, tops) {
+        return 12;
+    }
+    if ends_wrong(h, ends) {
+        return 13;
+    }
+    if blocks_wrong(h, blocks) {
+        return 14;
+    }
+    0
 }
 
 // Walks the intervals once, and says whether the table breaks 16: a wrong adjustment. Where it does not, `sums` is what
@@ -209,14 +226,9 @@ pub fn check(h: Header, tops: &[u32], ends: &[u32], blocks: &[u32], adjustments:
     if arrays_short(h, tops, ends, blocks, adjustments) {
         return 11;
     }
-    if tops_wrong(h, tops) {
-        return 12;
-    }
-    if ends_wrong(h, ends) {
-        return 13;
-    }
-    if blocks_wrong(h, blocks) {
-        return 14;
+    let broken = layout_refusal(h, tops, ends, blocks);
+    if broken != 0 {
+        return broken;
     }
     let mut sums = [0u32; 65];
     if walked(h, ends, blocks, adjustments, &mut sums) {
@@ -226,6 +238,53 @@ pub fn check(h: Header, tops: &[u32], ends: &[u32], blocks: &[u32], adjustments:
         }
         return 16;
     }
+    if holdings_wrong(h, tops, &sums) {
+        return 15;
+    }
+    0
+}
+
+// Works out the adjustments: an interval's start less what its block holds before it. `sums` is then what each block holds.
+fn adjust(h: Header, ends: &[u32], blocks: &[u32], adjustments: &mut [u32], sums: &mut [u32; 65])
+    requires { ⌜ (IntervalsRight h (now ends) (now blocks))
+        × (h .«interval_count» ≤ length (now adjustments))
+        × (now sums ≡ replicate maxBlocks 0) ⌝ }
+    ensures { λ _. ⌜ (Held h (now (ends .entry)) (now (blocks .entry)) (now (sums .exit)))
+        × (now (adjustments .exit)
+        ≡ over (from (adjustmentOf h (arrays [] (now (ends .entry)) (now (blocks .entry)) [])) 0 (h .«interval_count»))
+        (now (adjustments .entry))) ⌝ }
+{
+    let mut start: u32 = 0;
+    let mut i: usize = 0;
+    while i < h.interval_count as usize {
+        let end = ends[i];
+        let block = blocks[i] as usize;
+        let sum = sums[block];
+        adjustments[i] = start - sum;
+        sums[block] = sum + (end - start);
+        start = end;
+        i += 1;
+    }
+}
+
+// The number of the first of rules 12 to 15 that arrays without adjustments break, or 0. Where it is 0, the adjustments are
+// worked out.
+pub fn complete(
+    h: Header,
+    tops: &[u32],
+    ends: &[u32],
+    blocks: &[u32],
+    adjustments: &mut [u32],
+) -> u32
+    requires { ⌜ (Counted h (now tops) (now ends) (now blocks)) × (h .«interval_count» ≤ length (now adjustments)) ⌝ }
+    ensures { λ r. ⌜ Completed h (now (tops .entry)) (now (ends .entry)) (now (blocks .entry)) (now (adjustments .entry)) r (now (adjustments .exit)) ⌝ }
+{
+    let broken = layout_refusal(h, tops, ends, blocks);
+    if broken != 0 {
+        return broken;
+    }
+    let mut sums = [0u32; 65];
+    adjust(h, ends, blocks, adjustments, &mut sums);
     if holdings_wrong(h, tops, &sums) {
         return 15;
     }

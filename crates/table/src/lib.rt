@@ -1,11 +1,13 @@
-// What every layer reads of a table: the entry before a place, the number of bins, and what bins are due.
+// What every layer reads of a table: the entry before a place, the number of bins, and what bins are due; and the copying of
+// an array.
 use model::table::Header;
 ghost use Prim.Native.Nat.{_+_, _*_, _^_, min, _≤_, _<_};
 ghost use mathlib.Core.Path.{_≡_};
-ghost use lib.ListN.{length};
+ghost use lib.ListN.{length, take};
 ghost use Rattle.model.specs.Lent.{LentSound, tableGiven};
 ghost use Rattle.model.specs.Basics.{before as entryBefore};
-ghost use Rattle.model.specs.Table.{bins as binsOf};
+ghost use Rattle.model.specs.Limits.{maxIntervals};
+ghost use Rattle.model.specs.Table.{bins as binsOf, over};
 
 // The entry before place i of xs; 0 stands before the first. The start of interval i, or the first bin of block i.
 pub fn before(xs: &[u32], i: usize) -> u32
@@ -33,4 +35,23 @@ pub fn due_below(quotient: u32, remainder: u32, m: u32) -> u32
         return whole + m;
     }
     whole + remainder
+}
+
+// Copies the first `count` entries of an array over those of another: by way of a local one, which overlaps neither, so that
+// the compiler moves them as a block and drops the local array.
+pub fn copy(from: &[u32], count: usize, to: &mut [u32])
+    requires { ⌜ (count ≤ length (now from)) × (count ≤ length (now to)) × (count ≤ maxIntervals) ⌝ }
+    ensures { λ _. ⌜ now (to .exit) ≡ over (take count (now (from .entry))) (now (to .entry)) ⌝ }
+{
+    let mut own = [0u32; 2081];
+    let mut i: usize = 0;
+    while i < count {
+        own[i] = from[i];
+        i += 1;
+    }
+    let mut j: usize = 0;
+    while j < count {
+        to[j] = own[j];
+        j += 1;
+    }
 }

@@ -2,27 +2,18 @@
 -- what the rules before it have shown. Assumes nothing.
 use mathlib.Core.Path.{_≡_, refl, sym, _∙_}
 use mathlib.Core.Bool.{false}
-use mathlib.Core.List.{[], _∷_}
+use mathlib.Core.List.{[], _∷_, _++_}
 use borrow.Author.Needs.{needs}
 use Rattle.model.specs.Basics.{_or_}
 use Rattle.model.specs.Table.{Arrays, arrays}
-use Rattle.model.specs.Refusal.{
-  headerOutside,
-  arraysShort,
-  topsWrong,
-  endsWrong,
-  blocksWrong,
-  holdingsWrong,
-  adjustmentsWrong,
-  first,
-}
+use Rattle.model.specs.Refusal.{headerOutside, arraysShort, holdingsWrong, adjustmentsWrong, first}
 use Rattle.model.specs.Calls.{tableTests}
 use Rattle.model.specs.declared.table.Header.{Header}
-use Rattle.model.proofs.Refusals.{or-both, first-none, first-here, first-skip}
-use Rattle.model.proofs.Rules.{or-first, or-last, blocks-inside, intervals-inside, tops-long, ends-long, blocks-long, adjustments-long}
+use Rattle.model.proofs.Refusals.{or-both, first-none, first-here, first-skip, first-found}
+use Rattle.model.proofs.Rules.{or-first, or-last, adjustments-long}
 use Rattle.model.proofs.Holdings.{holdings-same, adjustments-same}
-use Rattle.soundness.specs.Passed.{TopsRight, IntervalsRight}
-use Rattle.soundness.proofs.Passed.{tops-right, intervals-right}
+use Rattle.soundness.specs.Passed.{Counted, layoutTests, TopsRight, IntervalsRight}
+use Rattle.soundness.proofs.Passed.{lent-counted, laid, layout-after, tops-right, intervals-right}
 use Rattle.soundness.proofs.check.Statement.{statement}
 use Rattle.soundness.proofs.check.Tie as tie
 
@@ -43,18 +34,12 @@ at2 c = at1 (c .before .before)
 abbrev at3 : tie.Else3 → tie.Start
 at3 c = at2 (c .before .before)
 
-abbrev at4 : tie.Else4 → tie.Start
-at4 c = at3 (c .before .before)
-
-abbrev at5 : tie.Else5 → tie.Start
-at5 c = at4 (c .before .before)
-
 -- the last rule passed before the walk, and the entry, from after the walk
-abbrev last : tie.After-walked → tie.Else5
+abbrev last : tie.After-walked → tie.Else3
 last c = c .before .before
 
-abbrev at6 : tie.After-walked → tie.Start
-at6 c = at5 (last c)
+abbrev at4 : tie.After-walked → tie.Start
+at4 c = at3 (last c)
 
 -- the rules passed on the way
 header-pass : (c : tie.Else1) → headerOutside (h (at1 c)) ≡ false
@@ -66,44 +51,36 @@ short-pass c = sym (c .before .arrays-short .ensures) ∙ c .if2 .left
 sizes-pass : (c : tie.Else2) → headerOutside (h (at2 c)) or arraysShort (h (at2 c)) (a (at2 c)) ≡ false
 sizes-pass c = or-both _ _ (header-pass (c .before .before)) (short-pass c)
 
-tops-pass : (c : tie.Else3) → topsWrong (h (at3 c)) (a (at3 c) .tops) ≡ false
-tops-pass c = sym (c .before .tops-wrong .ensures) ∙ c .if3 .left
+counted : (c : tie.Else2) → Counted (h (at2 c)) (a (at2 c) .tops) (a (at2 c) .ends) (a (at2 c) .blocks)
+counted c = lent-counted _ _ (header-pass (c .before .before)) (short-pass c)
 
-ends-pass : (c : tie.Else4) → endsWrong (h (at4 c)) (a (at4 c) .ends) ≡ false
-ends-pass c = sym (c .before .ends-wrong .ensures) ∙ c .if4 .left
-
-blocks-pass : (c : tie.Else5) → blocksWrong (h (at5 c)) (a (at5 c) .blocks) ≡ false
-blocks-pass c = sym (c .before .blocks-wrong .ensures) ∙ c .if5 .left
+layout-pass : (c : tie.Else3) → first (layoutTests (h (at3 c)) (a (at3 c) .tops) (a (at3 c) .ends) (a (at3 c) .blocks)) ≡ 0
+layout-pass c = sym (c .before .layout-refusal .ensures) ∙ c .if3 .left
 
 -- what the walk and the tests of 15 say
-adjustments-said : (c : tie.After-walked) → c .walked .result ≡ adjustmentsWrong (h (at6 c)) (a (at6 c))
+adjustments-said : (c : tie.After-walked) → c .walked .result ≡ adjustmentsWrong (h (at4 c)) (a (at4 c))
 adjustments-said c = c .walked .ensures .0 ∙ adjustments-same _ _ _ _ _ _
 
 abbrev walk : tie.After-holdings-wrong → tie.After-walked
 walk c = c .before .before .before .before
 
 summed-said
-    : (c : tie.After-holdings-wrong) → c .holdings-wrong .result ≡ holdingsWrong (h (at6 (walk c))) (a (at6 (walk c)))
+    : (c : tie.After-holdings-wrong) → c .holdings-wrong .result ≡ holdingsWrong (h (at4 (walk c))) (a (at4 (walk c)))
 summed-said c = c .holdings-wrong .ensures _ _ (c .before .before .summed .ensures) ∙ holdings-same _ _ _ _ _ _
 
 abbrev walk2 : tie.After-holdings-wrong2 → tie.After-walked
 walk2 c = c .before .before .before
 
 walked-said
-    : (c : tie.After-holdings-wrong2) → c .holdings-wrong2 .result ≡ holdingsWrong (h (at6 (walk2 c))) (a (at6 (walk2 c)))
+    : (c : tie.After-holdings-wrong2) → c .holdings-wrong2 .result ≡ holdingsWrong (h (at4 (walk2 c))) (a (at4 (walk2 c)))
 walked-said c =
-    c .holdings-wrong2 .ensures _ _ (walk2 c .walked .ensures .1 (c .before .before .if6 .left)) ∙ holdings-same _ _ _ _ _ _
+    c .holdings-wrong2 .ensures _ _ (walk2 c .walked .ensures .1 (c .before .before .if4 .left)) ∙ holdings-same _ _ _ _ _ _
 
 tops-done : (c : tie.Else3) → TopsRight (h (at3 c)) (a (at3 c) .tops)
-tops-done c = tops-right _ _ (header-pass (c .before .before .before .before)) (short-pass (c .before .before)) (tops-pass c)
+tops-done c = tops-right _ _ _ _ (counted (c .before .before)) (laid _ _ _ _ (layout-pass c))
 
-intervals-done : (c : tie.Else5) → IntervalsRight (h (at5 c)) (a (at5 c) .ends) (a (at5 c) .blocks)
-intervals-done c =
-    intervals-right _ _
-    (header-pass (c .before .before .before .before .before .before .before .before))
-    (short-pass (c .before .before .before .before .before .before))
-    (ends-pass (c .before .before))
-    (blocks-pass c)
+intervals-done : (c : tie.Else3) → IntervalsRight (h (at3 c)) (a (at3 c) .ends) (a (at3 c) .blocks)
+intervals-done c = intervals-right _ _ _ _ (counted (c .before .before)) (laid _ _ _ _ (layout-pass c))
 
 header-outside-requires : tie.Need-header-outside-requires
 header-outside-requires c κs = search needs
@@ -122,84 +99,61 @@ returns-2 c =
     (first-here _ _
     (or-last _ _ (header-pass (c .before .before)) ∙ sym (c .before .arrays-short .ensures) ∙ c .if2 .taken))
 
-tops-wrong-requires : tie.Need-tops-wrong-requires
-tops-wrong-requires c κs = (blocks-inside _ (header-pass (c .before .before)) .0, tops-long _ _ (short-pass c))
+layout-refusal-requires : tie.Need-layout-refusal-requires
+layout-refusal-requires c κs = counted c
+
+-- rule 11 is passed: rules 12 to 14 answer, or, where they are passed, 15 and 16
+later
+    : (c : tie.Else2)
+    → first (tableTests (h (at2 c)) (a (at2 c)))
+    ≡ first
+    (layoutTests (h (at2 c)) (a (at2 c) .tops) (a (at2 c) .ends) (a (at2 c) .blocks)
+    ++ ((15, holdingsWrong (h (at2 c)) (a (at2 c))) ∷ (16, adjustmentsWrong (h (at2 c)) (a (at2 c))) ∷ []))
+unfolding tableTests layoutTests
+later c = first-skip _ _ (sizes-pass c)
 
 returns-3 : tie.Need-returns-3
-unfolding tableTests
 returns-3 c =
-    sym
-    (first-skip _ _ (sizes-pass (c .before .before))
-    ∙ first-here _ _ (sym (c .before .tops-wrong .ensures) ∙ c .if3 .taken))
+    c .before .layout-refusal .ensures
+    ∙ sym (later (c .before .before) ∙ first-found _ _ (λ z. c .if3 .taken (c .before .layout-refusal .ensures ∙ z)))
 
-ends-wrong-requires : tie.Need-ends-wrong-requires
-ends-wrong-requires c κs =
-    (intervals-inside _ (header-pass (c .before .before .before .before)) .0, ends-long _ _ (short-pass (c .before .before)))
-
-returns-4 : tie.Need-returns-4
-unfolding tableTests
-returns-4 c =
-    sym
-    (first-skip _ _ (sizes-pass (c .before .before .before .before))
-    ∙ first-skip _ _ (tops-pass (c .before .before))
-    ∙ first-here _ _ (sym (c .before .ends-wrong .ensures) ∙ c .if4 .taken))
-
-blocks-wrong-requires : tie.Need-blocks-wrong-requires
-blocks-wrong-requires c κs = blocks-long _ _ (short-pass (c .before .before .before .before))
-
-returns-5 : tie.Need-returns-5
-unfolding tableTests
-returns-5 c =
-    sym
-    (first-skip _ _ (sizes-pass (c .before .before .before .before .before .before))
-    ∙ first-skip _ _ (tops-pass (c .before .before .before .before))
-    ∙ first-skip _ _ (ends-pass (c .before .before))
-    ∙ first-here _ _ (sym (c .before .blocks-wrong .ensures) ∙ c .if5 .taken))
+passed
+    : (c : tie.Else3)
+    → first (tableTests (h (at3 c)) (a (at3 c)))
+    ≡ first ((15, holdingsWrong (h (at3 c)) (a (at3 c))) ∷ (16, adjustmentsWrong (h (at3 c)) (a (at3 c))) ∷ [])
+passed c = later (c .before .before) ∙ layout-after _ _ _ _ _ (layout-pass c)
 
 walked-requires : tie.Need-walked-requires
-walked-requires c κs =
-    (intervals-done (c .before), adjustments-long _ _ (short-pass (c .before .before .before .before .before .before .before)), refl)
+walked-requires c κs = (intervals-done (c .before), adjustments-long _ _ (short-pass (c .before .before .before)), refl)
 
 summed-requires : tie.Need-summed-requires
 summed-requires c κs = intervals-done (last (c .before))
 
 holdings-wrong-requires : tie.Need-holdings-wrong-requires
-holdings-wrong-requires c κs = tops-done (last (c .before .before .before) .before .before .before .before)
+holdings-wrong-requires c κs = tops-done (last (c .before .before .before))
 
--- rules 11 to 14 are passed
-passed
-    : (c : tie.Else5)
-    → first (tableTests (h (at5 c)) (a (at5 c)))
-    ≡ first ((15, holdingsWrong (h (at5 c)) (a (at5 c))) ∷ (16, adjustmentsWrong (h (at5 c)) (a (at5 c))) ∷ [])
-unfolding tableTests
-passed c =
-    first-skip _ _ (sizes-pass (c .before .before .before .before .before .before))
-    ∙ first-skip _ _ (tops-pass (c .before .before .before .before))
-    ∙ first-skip _ _ (ends-pass (c .before .before))
-    ∙ first-skip _ _ (blocks-pass c)
+returns-4 : tie.Need-returns-4
+returns-4 c = sym (passed (last (walk (c .before))) ∙ first-here _ _ (sym (summed-said (c .before)) ∙ c .if5 .taken))
+
+returns-5 : tie.Need-returns-5
+returns-5 c =
+    sym
+    (passed (last (walk (c .before)))
+    ∙ first-skip _ _ (sym (summed-said (c .before)) ∙ c .if5 .left)
+    ∙ first-here _ _ (sym (adjustments-said (walk (c .before))) ∙ c .before .before .before .before .if4 .taken))
+
+holdings-wrong-requires-2 : tie.Need-holdings-wrong-requires-2
+holdings-wrong-requires-2 c κs = tops-done (last (c .before .before))
 
 returns-6 : tie.Need-returns-6
-returns-6 c = sym (passed (last (walk (c .before))) ∙ first-here _ _ (sym (summed-said (c .before)) ∙ c .if7 .taken))
+returns-6 c = sym (passed (last (walk2 (c .before))) ∙ first-here _ _ (sym (walked-said (c .before)) ∙ c .if6 .taken))
 
 returns-7 : tie.Need-returns-7
 returns-7 c =
     sym
-    (passed (last (walk (c .before)))
-    ∙ first-skip _ _ (sym (summed-said (c .before)) ∙ c .if7 .left)
-    ∙ first-here _ _ (sym (adjustments-said (walk (c .before))) ∙ c .before .before .before .before .if6 .taken))
-
-holdings-wrong-requires-2 : tie.Need-holdings-wrong-requires-2
-holdings-wrong-requires-2 c κs = tops-done (last (c .before .before) .before .before .before .before)
-
-returns-8 : tie.Need-returns-8
-returns-8 c = sym (passed (last (walk2 (c .before))) ∙ first-here _ _ (sym (walked-said (c .before)) ∙ c .if8 .taken))
-
-returns-9 : tie.Need-returns-9
-returns-9 c =
-    sym
     (passed (last (walk2 (c .before)))
-    ∙ first-skip _ _ (sym (walked-said (c .before)) ∙ c .if8 .left)
-    ∙ first-skip _ _ (sym (adjustments-said (walk2 (c .before))) ∙ c .before .before .before .if6 .left)
+    ∙ first-skip _ _ (sym (walked-said (c .before)) ∙ c .if6 .left)
+    ∙ first-skip _ _ (sym (adjustments-said (walk2 (c .before))) ∙ c .before .before .before .if4 .left)
     ∙ first-none)
 
 pub check-spec : {M : Type 1} → statement M
@@ -210,17 +164,13 @@ check-spec =
     returns
     arrays-short-requires
     returns-2
-    tops-wrong-requires
+    layout-refusal-requires
     returns-3
-    ends-wrong-requires
-    returns-4
-    blocks-wrong-requires
-    returns-5
     walked-requires
     summed-requires
     holdings-wrong-requires
-    returns-6
-    returns-7
+    returns-4
+    returns-5
     holdings-wrong-requires-2
-    returns-8
-    returns-9)
+    returns-6
+    returns-7)

@@ -103,8 +103,7 @@ returns : tie.Need-returns Inv-loop μ-loop
 unfolding adjustmentsWrong
 returns c =
     let begun = c .before .before .before .before .before .before in
-    let same : c .before .before .loop .i ≡ begun .args .h .«interval_count» = omega arith in
-    (
+    let same : c .before .before .loop .i ≡ begun .args .h .«interval_count» = omega arith in (
       rw same at (walked-flag _ _ _ _ _ _ (c .before .before .loop .inv .1)),
       λ f.
           let sums = walked-sums _ _ _ _ _ _ (c .before .before .loop .inv .1) f in
