@@ -8,7 +8,7 @@ use lib.ListN.{getD}
 use Rattle.model.specs.Basics.{before}
 use Rattle.model.specs.Due.{dueOfBlock}
 use Rattle.model.specs.Saved.{number}
-use Rattle.model.specs.Claims.{dueBelow}
+use Rattle.model.specs.Balance.{dueBelow}
 use Rattle.model.specs.declared.table.Header.{Header}
 use Rattle.model.proofs.Dues.{block-closed}
 use Rattle.model.proofs.Intervals.{Rising}

@@ -2,7 +2,7 @@
 use mathlib.Core.Path.{refl}
 use Rattle.model.specs.Basics.{if_then_else_, _and_, _or_, bit, sum, count, all, from, joined, before}
 use Rattle.model.specs.Table.{bins, shape, firstBin, blockBins, table, header, over, written}
-use Rattle.model.specs.Place.{intervalOf, indexOf, blockOf, rank, bin, position, held, others, binSize, located, locatedRefusal, blockOfBin, rankAt, includes, holder, holderRefusal, holderBucket, bucketAt}
+use Rattle.model.specs.Place.{intervalOf, indexOf, blockOf, rank, bin, position, held, others, size, binSize, located, locatedRefusal, blockOfBin, rankAt, includes, holder, holderRefusal, holderBucket, bucketAt}
 use Rattle.model.specs.Due.{due, dueOfBins, dueOfBlock}
 use Rattle.model.specs.Refusal.{first, outside, rises, headerOutside, arraysShort, topsWrong, endsWrong, blocksWrong, holdingsWrong, adjustmentOf, adjustmentsWrong, sizeOutside, fewBuckets, shrinks, unchanged, blocksFull, bucketPast, binPast, placePast, roomShort}
 use Rattle.model.specs.Initial.{initial}
@@ -15,7 +15,7 @@ use Rattle.model.specs.Claims.{Figures, Listing}
 
 pub figures : Figures
 unfolding if_then_else_ _and_ _or_ bit sum count all from joined before bins shape firstBin blockBins table header
-    over written intervalOf indexOf blockOf rank bin position held others binSize located locatedRefusal blockOfBin
+    over written intervalOf indexOf blockOf rank bin position held others size binSize located locatedRefusal blockOfBin
     rankAt includes holder holderRefusal holderBucket bucketAt due dueOfBins dueOfBlock first outside rises
     headerOutside arraysShort topsWrong endsWrong blocksWrong holdingsWrong adjustmentOf adjustmentsWrong sizeOutside
     fewBuckets shrinks unchanged blocksFull bucketPast binPast placePast roomShort initial newTops has dueAfter someFall
@@ -31,7 +31,7 @@ figures = refl
 
 pub listing : Listing
 unfolding if_then_else_ _and_ _or_ bit sum count all from joined before bins shape firstBin blockBins table header
-    over written intervalOf indexOf blockOf rank bin position held others binSize located locatedRefusal blockOfBin
+    over written intervalOf indexOf blockOf rank bin position held others size binSize located locatedRefusal blockOfBin
     rankAt includes holder holderRefusal holderBucket bucketAt due dueOfBins dueOfBlock first outside rises
     headerOutside arraysShort topsWrong endsWrong blocksWrong holdingsWrong adjustmentOf adjustmentsWrong sizeOutside
     fewBuckets shrinks unchanged blocksFull bucketPast binPast placePast roomShort initial newTops has dueAfter someFall

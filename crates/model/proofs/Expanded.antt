@@ -10,14 +10,13 @@ use borrow.Author.Tests.{ltb-false, eq-eqb}
 use Rattle.model.specs.Basics.{if_then_else_}
 use Rattle.model.specs.Limits.{maxIntervals}
 use Rattle.model.specs.Table.{Shape, Interval, Table, bins, shape, Arrays, table}
-use Rattle.model.specs.Place.{intervalOf, blockOf, rank}
+use Rattle.model.specs.Place.{intervalOf, blockOf, rank, size}
 use Rattle.model.specs.Due.{dueOfBlock}
 use Rattle.model.specs.Refusal.{first, roomShort}
 use Rattle.model.specs.Expansion.{newTops, dueAfter, someFall, filled, drained, expanded}
 use Rattle.model.specs.Calls.{tableTests, growthTests, intervalsFull, answer, tableReply, arraysAfter, expandRefusal, expandReply, expandArrays}
 use Rattle.model.specs.TableClaims.{SoundIff}
 use Rattle.model.specs.ExpansionClaims.{ExpandSound, Stays, ExpandStays}
-use Rattle.model.specs.Balance.{size}
 use Rattle.model.specs.declared.table.Header.{Header}
 use Rattle.model.proofs.Counts.{bit-cases, below-or}
 use Rattle.model.proofs.Listed.{Placed, size-same, tells-same, tells-placed}

@@ -7,8 +7,7 @@ use native.Mathlib.Omega.{arith}
 use lib.ListN.{length}
 use lib.Seq.{getD-take}
 use Rattle.model.specs.Table.{Shape, Interval, Table, table}
-use Rattle.model.specs.Place.{held}
-use Rattle.model.specs.Balance.{size}
+use Rattle.model.specs.Place.{held, size}
 use Rattle.model.specs.Expansion.{dueAfter, someFall, drained, filled, expanded}
 use Rattle.model.specs.ExpansionClaims.{ExpandSound, ExpandPlaces, MovedLeast, LeastTotal, LeastTotalDecided}
 use Rattle.model.proofs.Counts.{bit-cases}

@@ -8,7 +8,7 @@ use lib.ListN.{getD}
 use borrow.Author.Count.{below-none, below-more}
 use Rattle.model.specs.Basics.{before}
 use Rattle.model.specs.Due.{dueOfBlock}
-use Rattle.model.specs.Claims.{dueBelow}
+use Rattle.model.specs.Balance.{dueBelow}
 use Rattle.model.proofs.Tables.{length-from}
 use Rattle.model.proofs.Holdings.{lentShape, due-none, holdings-right, holdings-fail}
 use Rattle.file.specs.Counted.{fileArrays}
