@@ -9,9 +9,9 @@ use lib.Seq.{getD-take}
 use Rattle.model.specs.Table.{Shape, Interval, Table, table}
 use Rattle.model.specs.Place.{held, size}
 use Rattle.model.specs.Expansion.{dueAfter, someFall, drained, filled, expanded}
-use Rattle.model.specs.ExpansionClaims.{ExpandSound, ExpandPlaces, MovedLeast, LeastTotal, LeastTotalDecided}
+use Rattle.model.specs.ExpansionClaims.{ExpandSound, ExpandPlaces, MovedLeast, LeastTotal, LeastTotalDecided, LeftSound}
 use Rattle.model.proofs.Counts.{bit-cases}
-use Rattle.model.proofs.Soundness.{sound-iff, initial-sound}
+use Rattle.model.proofs.Soundness.{sound-iff}
 use Rattle.model.proofs.Listed.{size-same}
 use Rattle.model.proofs.Wells.{Well, due-same, tops-length, sound-well}
 use Rattle.model.proofs.Growths.{Accepted, accepted, due-old, none-falls, length-either, Grown}
@@ -19,7 +19,7 @@ use Rattle.model.proofs.Filled.{filledBlock, filled-grown}
 use Rattle.model.proofs.Drained.{drainedBlock, drained-grown}
 use Rattle.model.proofs.Expanded.{grownTable, grown-block, expanded-drained, expanded-filled, expand-stays, expand-sound}
 use Rattle.model.proofs.Moves.{OldHoldings, expand-places, moved-least}
-use Rattle.model.proofs.Totals.{least-total, least-total-decided}
+use Rattle.model.proofs.Totals.{least-total, least-total-decided, sound-after}
 
 -- an old block of the new table holds its due
 grown-held
@@ -63,7 +63,10 @@ pub moved-is-least : MovedLeast
 moved-is-least = moved-least expand-stays old-holdings
 
 pub total-is-least : LeastTotal
-total-is-least = least-total initial-sound expand-is-sound moved-is-least
+total-is-least = least-total moved-is-least
 
 pub total-decided : LeastTotalDecided
-total-decided = least-total-decided initial-sound expand-is-sound moved-is-least
+total-decided = least-total-decided moved-is-least
+
+pub left-sound : LeftSound
+left-sound = sound-after expand-is-sound

@@ -8,7 +8,7 @@ use lib.ListN.{length, getD}
 use Rattle.model.specs.Table.{Shape, bins, shape, Arrays, table}
 use Rattle.model.specs.Place.{bin, position, bucketAt, binSize}
 use Rattle.model.specs.Due.{due}
-use Rattle.model.specs.Refusal.{first, roomShort}
+use Rattle.model.specs.Refusal.{first, arraysShort, roomShort}
 use Rattle.model.specs.Sound.{Sound}
 use Rattle.model.specs.Saved.{saved}
 use Rattle.model.specs.Calls.{
@@ -26,6 +26,10 @@ use Rattle.model.specs.declared.table.Header.{Header}
 -- the check answers 0 exactly where the table is sound
 abbrev pub SoundIff : Type 0
 SoundIff = (h : Header) (a : Arrays) → (first (tableTests h a) ≡ 0) ↔ Sound h a
+
+-- what holds of a sound table's arrays holds of all that hold the same table and are no shorter than its counts
+abbrev pub SameSound : Type 0
+SameSound = (h : Header) (a b : Arrays) → Sound h a → table h b ≡ table h a → arraysShort h b ≡ false → Sound h b
 
 -- the tables of accepted calls are sound
 abbrev pub InitialSound : Type 0
@@ -77,6 +81,7 @@ LoadedSaved =
 
 pub record TableClaims : Type 0 where
   pub soundIff : SoundIff
+  pub sameSound : SameSound
   pub initialSound : InitialSound
   pub loadSound : LoadSound
   pub sizeDue : SizeDue

@@ -1,6 +1,7 @@
 -- `model::expansion_claims` meets its contract: a proof of each claim. Assumes nothing.
 use Rattle.model.proofs.Expanded.{expand-stays}
-use Rattle.model.proofs.Kept.{expand-is-sound, places-kept, moved-is-least, total-is-least, total-decided}
+use Rattle.model.proofs.Totals.{left-lends}
+use Rattle.model.proofs.Kept.{expand-is-sound, places-kept, moved-is-least, total-is-least, total-decided, left-sound}
 use Rattle.model.proofs.expansion_claims.Statement.{statement}
 use Rattle.model.proofs.expansion_claims.Tie as tie
 
@@ -13,6 +14,8 @@ returns c =
       movedLeast = moved-is-least;
       leastTotal = total-is-least;
       leastTotalDecided = total-decided;
+      leftLends = left-lends;
+      leftSound = left-sound;
     }
 
 pub expansion-claims-spec : {M : Type 1} → statement M

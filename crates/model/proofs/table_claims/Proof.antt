@@ -1,5 +1,5 @@
 -- `model::table_claims` meets its contract: a proof of each claim. Assumes nothing.
-use Rattle.model.proofs.Soundness.{sound-iff, initial-sound}
+use Rattle.model.proofs.Soundness.{sound-iff, same-sound, initial-sound}
 use Rattle.model.proofs.Places.{size-due, table-balanced}
 use Rattle.model.proofs.Finds.{find-placed, place-found}
 use Rattle.model.proofs.Files.{load-sound, saved-loaded, loaded-saved}
@@ -10,6 +10,7 @@ returns : tie.Need-returns
 returns c =
     record {
       soundIff = sound-iff;
+      sameSound = same-sound;
       initialSound = initial-sound;
       loadSound = load-sound;
       sizeDue = size-due;
