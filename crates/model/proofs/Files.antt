@@ -25,7 +25,7 @@ use Rattle.model.specs.Saved.{
   loadedArrays,
 }
 use Rattle.model.specs.Calls.{loadTests, loadRefusal, loadReply, loadArrays}
-use Rattle.model.specs.TableClaims.{LoadSound, SavedLoaded, LoadedSaved}
+use Rattle.model.specs.TableClaims.{LoadSound, LoadRead, SavedLoaded, LoadedSaved}
 use Rattle.model.specs.declared.table.Header.{Header}
 use Rattle.model.specs.declared.reply.LoadReply.{LoadReply}
 use Rattle.model.proofs.Intervals.{Rising, before-mono}
@@ -48,6 +48,7 @@ use Rattle.model.proofs.Tables.{
   from-getD,
   map-from,
   lentInterval,
+  header-table,
   table-again,
   Alike,
   adjustment-alike,
@@ -221,6 +222,15 @@ load-sound f out e =
     subst₂ Sound (sym (load-header f out e)) (sym (load-arrays f out e))
     (sound-written (loadedHeader f) (loadedArrays f) out
     (passes-sound (loadedHeader f) (loadedArrays f) (load-passes f out e)))
+
+-- and it is the table of the file
+pub load-read : LoadRead
+unfolding loadedArrays readArrays
+load-read f out e = (
+  load-header f out e ∙ sym (header-table (loadedHeader f) (loadedArrays f) (counted _ _ _)),
+  ap₂ table (load-header f out e) (load-arrays f out e)
+      ∙ table-again (loadedHeader f) (loadedArrays f) out (counted _ _ _),
+)
 
 -- THE NUMBERS OF A SAVED TABLE
 

@@ -40,7 +40,7 @@ use Rattle.model.specs.Calls.{
   initialReply,
   initialArrays,
 }
-use Rattle.model.specs.TableClaims.{SoundIff, SameSound, InitialSound}
+use Rattle.model.specs.TableClaims.{SoundIff, SameSound, InitialSound, Holds, WrittenRead, InitialRead}
 use Rattle.model.specs.declared.table.Header.{Header}
 use Rattle.model.specs.declared.reply.TableReply.{TableReply}
 use Rattle.model.proofs.Counts.{all-at, all-holds}
@@ -394,9 +394,17 @@ unfolding arraysAfter
 arrays-written r t out e = accepted r (written t out) out e
 
 -- so the table is there
+pub written-read : WrittenRead
+written-read t out = (refl, table-written t out)
+
 pub table-left
-    : (r m : ℕ) (t : Table) (out : Arrays) → r ≡ 0 → table (tableReply r m t .header) (arraysAfter r t out) ≡ t
-table-left r m t out e = ap₂ table (reply-header r m t e) (arrays-written r t out e) ∙ table-written t out
+    : (r m : ℕ) (t : Table) (out : Arrays) → r ≡ 0 → Holds (tableReply r m t .header) (arraysAfter r t out) t
+table-left r m t out e =
+    (reply-header r m t e, ap₂ table (reply-header r m t e) (arrays-written r t out e) ∙ table-written t out)
+
+pub initial-read : InitialRead
+unfolding initialReply initialArrays
+initial-read s out e = table-left (initialRefusal s out) 0 (initial s) out e
 
 -- the table of an accepted `initial` is sound
 pub initial-sound : InitialSound

@@ -15,7 +15,7 @@ use Rattle.model.specs.Table.{Shape, Table, bins, shape, Arrays, table}
 use Rattle.model.specs.Sound.{Sound}
 use Rattle.model.specs.Initial.{initial}
 use Rattle.model.specs.Expansion.{newTops, expanded, moved}
-use Rattle.model.specs.Calls.{tableReply, initialRefusal, initialReply, initialArrays, expandRefusal, expandReply, expandArrays}
+use Rattle.model.specs.Calls.{tableReply, initialRefusal, expandRefusal, expandReply}
 use Rattle.model.specs.Balance.{least, Grows, Growing, leastTotal}
 use Rattle.model.specs.History.{Call, State, tableOf, started, replyOf, next, Played, added, played, Lends, handedOn}
 use Rattle.model.specs.ExpansionClaims.{ExpandSound, MovedLeast, LeastTotal, LeastTotalDecided, LeftLends, LeftSound}
@@ -24,8 +24,8 @@ use Rattle.model.proofs.Counts.{below-or}
 use Rattle.model.proofs.Rivals.{least-of-all, least-decided}
 use Rattle.model.proofs.Moves.{grows}
 use Rattle.model.proofs.Refusals.{accepted, refused}
-use Rattle.model.proofs.Soundness.{sound-iff, initial-sound, table-left}
-use Rattle.model.proofs.Expanded.{expand-passes}
+use Rattle.model.proofs.Soundness.{sound-iff, initial-sound, initial-read}
+use Rattle.model.proofs.Expanded.{expand-passes, expand-read}
 
 -- REPLIES
 
@@ -109,8 +109,10 @@ module _ (st : State) (c : Call) where
     moved-new = moved-accepted _ _ _ call-accepted
 
     table-new : tableOf (next st c) ≡ new st c
-    unfolding next replyOf expandReply expandArrays
-    table-new = ap₂ table (accepted _ _ _ e) (accepted _ _ _ e) ∙ table-left _ _ _ (c .out) call-accepted
+    unfolding next replyOf
+    table-new =
+        ap₂ table (accepted _ _ _ e) (accepted _ _ _ e)
+        ∙ expand-read (st .header) (c .given) (c .sizes) (c .out) call-accepted .1
 
     sound-new : ExpandSound → Sound (next st c .header) (next st c .arrays)
     unfolding next replyOf
@@ -161,8 +163,8 @@ totals exact (c ∷ cs) st (same, lends) =
 module _ (exact : MovedLeast) (s : Shape) (out : Arrays) (e : initialRefusal s out ≡ 0) where
   -- an accepted fresh call leaves a table of its sizes
   started-shape : shape (tableOf (started s out)) ≡ s
-  unfolding started initialReply initialArrays
-  started-shape = ap shape (table-left (initialRefusal s out) 0 (initial s) out e) ∙ shape-initial s
+  unfolding started
+  started-shape = ap shape (initial-read s out e .1) ∙ shape-initial s
 
   -- and all calls after it move the least in total
   started-least : (cs : List Call) → Lends (started s out) cs → Least s (played (started s out) cs)

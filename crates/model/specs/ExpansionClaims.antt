@@ -12,6 +12,7 @@ use Rattle.model.specs.Expansion.{expanded, moved}
 use Rattle.model.specs.Relocations.{rows}
 use Rattle.model.specs.Calls.{growthTests, initialRefusal, expandRefusal, expandReply, expandArrays}
 use Rattle.model.specs.Balance.{Rival, total, AllOptimal, least}
+use Rattle.model.specs.TableClaims.{Holds}
 use Rattle.model.specs.History.{Call, State, started, history, Lends, handedOn}
 use Rattle.model.specs.declared.table.Header.{Header}
 
@@ -20,6 +21,12 @@ abbrev pub ExpandSound : Type 0
 ExpandSound =
     (h : Header) (a : Arrays) (s : Shape) (out : Arrays) → expandRefusal h a s out ≡ 0
     → Sound (expandReply h a s out .header) (expandArrays h a s out)
+
+-- and what the growth replies and writes holds the table of its definition
+abbrev pub ExpandRead : Type 0
+ExpandRead =
+    (h : Header) (a : Arrays) (s : Shape) (out : Arrays) → expandRefusal h a s out ≡ 0
+    → Holds (expandReply h a s out .header) (expandArrays h a s out) (expanded (table h a) s)
 
 -- a bucket has the same block and rank in two tables
 abbrev pub Stays : Table → Table → ℕ → Type 0
@@ -83,6 +90,7 @@ LeftSound =
 
 pub record ExpansionClaims : Type 0 where
   pub expandSound : ExpandSound
+  pub expandRead : ExpandRead
   pub expandStays : ExpandStays
   pub expandPlaces : ExpandPlaces
   pub movedLeast : MovedLeast

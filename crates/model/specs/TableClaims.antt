@@ -5,12 +5,13 @@ use mathlib.Core.Logic.{_↔_}
 use mathlib.Core.Bool.{false}
 use mathlib.Core.List.{List}
 use lib.ListN.{length, getD}
-use Rattle.model.specs.Table.{Shape, bins, shape, Arrays, table}
+use Rattle.model.specs.Table.{Shape, Table, bins, shape, Arrays, table, header, written}
 use Rattle.model.specs.Place.{bin, position, bucketAt, binSize}
 use Rattle.model.specs.Due.{due}
 use Rattle.model.specs.Refusal.{first, arraysShort, roomShort}
 use Rattle.model.specs.Sound.{Sound}
-use Rattle.model.specs.Saved.{saved}
+use Rattle.model.specs.Initial.{initial}
+use Rattle.model.specs.Saved.{saved, loadedHeader, loadedArrays}
 use Rattle.model.specs.Calls.{
   tableTests,
   initialRefusal,
@@ -37,6 +38,25 @@ InitialSound = (s : Shape) (out : Arrays) → initialRefusal s out ≡ 0 → Sou
 
 abbrev pub LoadSound : Type 0
 LoadSound = (f : List ℕ) (out : Arrays) → loadRefusal f out ≡ 0 → Sound (loadReply f out .header) (loadArrays f out)
+
+-- a header and arrays hold a table: the header is the table's, and they give it
+abbrev pub Holds : Header → Arrays → Table → Type 0
+Holds h a t = (h ≡ header t) × (table h a ≡ t)
+
+-- a table written into arrays and read back is that table
+abbrev pub WrittenRead : Type 0
+WrittenRead = (t : Table) (out : Arrays) → Holds (header t) (written t out) t
+
+-- so what an accepted call replies and writes holds the table of its definition
+abbrev pub InitialRead : Type 0
+InitialRead =
+    (s : Shape) (out : Arrays) → initialRefusal s out ≡ 0
+    → Holds (initialReply s out .header) (initialArrays s out) (initial s)
+
+abbrev pub LoadRead : Type 0
+LoadRead =
+    (f : List ℕ) (out : Arrays) → loadRefusal f out ≡ 0
+    → Holds (loadReply f out .header) (loadArrays f out) (table (loadedHeader f) (loadedArrays f))
 
 -- every bin of a sound table holds its due size, so the mapping is balanced
 abbrev pub SizeDue : Type 0
@@ -84,6 +104,9 @@ pub record TableClaims : Type 0 where
   pub sameSound : SameSound
   pub initialSound : InitialSound
   pub loadSound : LoadSound
+  pub writtenRead : WrittenRead
+  pub initialRead : InitialRead
+  pub loadRead : LoadRead
   pub sizeDue : SizeDue
   pub tableBalanced : TableBalanced
   pub findPlaced : FindPlaced

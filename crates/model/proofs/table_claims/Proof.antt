@@ -1,8 +1,8 @@
 -- `model::table_claims` meets its contract: a proof of each claim. Assumes nothing.
-use Rattle.model.proofs.Soundness.{sound-iff, same-sound, initial-sound}
+use Rattle.model.proofs.Soundness.{sound-iff, same-sound, initial-sound, written-read, initial-read}
 use Rattle.model.proofs.Places.{size-due, table-balanced}
 use Rattle.model.proofs.Finds.{find-placed, place-found}
-use Rattle.model.proofs.Files.{load-sound, saved-loaded, loaded-saved}
+use Rattle.model.proofs.Files.{load-sound, load-read, saved-loaded, loaded-saved}
 use Rattle.model.proofs.table_claims.Statement.{statement}
 use Rattle.model.proofs.table_claims.Tie as tie
 
@@ -13,6 +13,9 @@ returns c =
       sameSound = same-sound;
       initialSound = initial-sound;
       loadSound = load-sound;
+      writtenRead = written-read;
+      initialRead = initial-read;
+      loadRead = load-read;
       sizeDue = size-due;
       tableBalanced = table-balanced;
       findPlaced = find-placed;
