@@ -38,7 +38,7 @@ reply-refusal r m t =
       | no e ↦ ap (λ (p : TableReply). p .refusal) (refused r _ _ e)
     ]
 
-moved-accepted : (r m : ℕ) (t : Table) → r ≡ 0 → tableReply r m t .moved ≡ m
+pub moved-accepted : (r m : ℕ) (t : Table) → r ≡ 0 → tableReply r m t .moved ≡ m
 unfolding tableReply
 moved-accepted r m t e = ap (λ (p : TableReply). p .moved) (accepted r _ _ e)
 

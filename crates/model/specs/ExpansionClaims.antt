@@ -10,8 +10,8 @@ use Rattle.model.specs.Refusal.{first}
 use Rattle.model.specs.Sound.{Sound}
 use Rattle.model.specs.Expansion.{expanded, moved}
 use Rattle.model.specs.Relocations.{rows}
-use Rattle.model.specs.Calls.{growthTests, initialRefusal, expandRefusal, expandReply, expandArrays}
-use Rattle.model.specs.Balance.{Rival, total, AllOptimal, least}
+use Rattle.model.specs.Calls.{growthTests, initialRefusal, expandRefusal, expandReply, expandArrays, placeReply}
+use Rattle.model.specs.Balance.{changed, least, Rival, total, AllOptimal}
 use Rattle.model.specs.TableClaims.{Holds}
 use Rattle.model.specs.History.{Call, State, started, history, Lends, handedOn}
 use Rattle.model.specs.declared.table.Header.{Header}
@@ -59,6 +59,17 @@ MovedLeast =
     → (moved (table h a) (expanded (table h a) s) ≡ least (shape (table h a)) s)
     × (length (rows (table h a) (expanded (table h a) s)) ≡ moved (table h a) (expanded (table h a) s))
 
+-- and, of an accepted growth, the number of old buckets that `place` finds in another bin of the table that it wrote than of the
+-- table that it read
+abbrev pub MovedReplies : Type 0
+MovedReplies =
+    (h : Header) (a : Arrays) (s : Shape) (out : Arrays) → expandRefusal h a s out ≡ 0
+    → expandReply h a s out .moved
+    ≡ changed
+    (λ x. placeReply h a x .bin)
+    (λ x. placeReply (expandReply h a s out .header) (expandArrays h a s out) x .bin)
+    (h .buckets)
+
 -- demand 3: for every accepted fresh call, every list of growth calls, each lent any arrays that hold the table before it, and
 -- every rival of the accepted sizes, our total equals the rival's just where each growth of the rival meets the condition, and
 -- is smaller in every other case
@@ -94,6 +105,7 @@ pub record ExpansionClaims : Type 0 where
   pub expandStays : ExpandStays
   pub expandPlaces : ExpandPlaces
   pub movedLeast : MovedLeast
+  pub movedReplies : MovedReplies
   pub leastTotal : LeastTotal
   pub leastTotalDecided : LeastTotalDecided
   pub leftLends : LeftLends

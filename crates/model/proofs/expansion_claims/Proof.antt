@@ -1,7 +1,7 @@
 -- `model::expansion_claims` meets its contract: a proof of each claim. Assumes nothing.
 use Rattle.model.proofs.Expanded.{expand-stays, expand-read}
 use Rattle.model.proofs.Totals.{left-lends}
-use Rattle.model.proofs.Kept.{expand-is-sound, places-kept, moved-is-least, total-is-least, total-decided, left-sound}
+use Rattle.model.proofs.Kept.{expand-is-sound, places-kept, moved-is-least, moved-replies, total-is-least, total-decided, left-sound}
 use Rattle.model.proofs.expansion_claims.Statement.{statement}
 use Rattle.model.proofs.expansion_claims.Tie as tie
 
@@ -13,6 +13,7 @@ returns c =
       expandStays = expand-stays;
       expandPlaces = places-kept;
       movedLeast = moved-is-least;
+      movedReplies = moved-replies;
       leastTotal = total-is-least;
       leastTotalDecided = total-decided;
       leftLends = left-lends;
