@@ -1,10 +1,10 @@
 -- What is proved of lent tables and files: soundness, places, and keeping. Each claim is a type. Assumes nothing.
-use Prim.Native.Nat.{ℕ, _<_}
+use Prim.Native.Nat.{ℕ, _+_, _*_, _≤_, _<_}
 use mathlib.Core.Path.{_≡_}
 use mathlib.Core.Logic.{_↔_}
 use mathlib.Core.Bool.{false}
 use mathlib.Core.List.{List}
-use lib.ListN.{length, getD}
+use lib.ListN.{length, getD, take}
 use Rattle.model.specs.Table.{Shape, Table, bins, shape, Arrays, table, header, written}
 use Rattle.model.specs.Place.{bin, position, bucketAt, binSize}
 use Rattle.model.specs.Due.{due}
@@ -17,6 +17,8 @@ use Rattle.model.specs.Calls.{
   initialRefusal,
   initialReply,
   initialArrays,
+  saveReply,
+  saveBytes,
   loadRefusal,
   loadReply,
   loadArrays,
@@ -85,19 +87,37 @@ PlaceFound =
     × (bin (table h a) (bucketAt (table h a) y p) ≡ y)
     × (position (table h a) (bucketAt (table h a) y p) ≡ p)
 
--- a sound table, saved and loaded, is the same table
+-- there is room in a buffer for a saved map of the header's G and k
+abbrev pub Fits : Header → List ℕ → Type 0
+Fits h buffer = 12 + 4 * h .«block_count» + 8 * h .«interval_count» ≤ length buffer
+
+-- a sound table is saved into any buffer with room, and its length is exactly 12 + 4G + 8k
+abbrev pub SavedLength : Type 0
+SavedLength =
+    (h : Header) (a : Arrays) (buffer : List ℕ) → Sound h a → Fits h buffer
+    → (saveReply h a buffer .refusal ≡ 0)
+    × (saveReply h a buffer .length ≡ 12 + 4 * h .«block_count» + 8 * h .«interval_count»)
+    × (length (saved (table h a)) ≡ 12 + 4 * h .«block_count» + 8 * h .«interval_count»)
+
+-- the file that `save` leaves in a buffer: as many of its first bytes as the reply says
+abbrev pub savedFile : Header → Arrays → List ℕ → List ℕ
+savedFile h a buffer = take (saveReply h a buffer .length) (saveBytes h a buffer)
+
+-- a sound table, saved into any buffer with room and loaded into any arrays with room, is the same table
 abbrev pub SavedLoaded : Type 0
 SavedLoaded =
-    (h : Header) (a out : Arrays) → Sound h a → roomShort out ≡ false
-    → (loadRefusal (saved (table h a)) out ≡ 0)
-    × (loadReply (saved (table h a)) out .header ≡ h)
-    × (table h (loadArrays (saved (table h a)) out) ≡ table h a)
+    (h : Header) (a : Arrays) (buffer : List ℕ) (out : Arrays) → Sound h a → Fits h buffer → roomShort out ≡ false
+    → (loadRefusal (savedFile h a buffer) out ≡ 0)
+    × (loadReply (savedFile h a buffer) out .header ≡ h)
+    × (table h (loadArrays (savedFile h a buffer) out) ≡ table h a)
 
--- an accepted file, loaded and saved, is the same bytes
+-- an accepted file of bytes, loaded and saved into any buffer with room, is the same file
 abbrev pub LoadedSaved : Type 0
 LoadedSaved =
-    (f : List ℕ) (out : Arrays) → ((i : ℕ) → i < length f → getD f i 0 < 256) → loadRefusal f out ≡ 0
-    → saved (table (loadReply f out .header) (loadArrays f out)) ≡ f
+    (f : List ℕ) (out : Arrays) (buffer : List ℕ) → ((i : ℕ) → i < length f → getD f i 0 < 256) → loadRefusal f out ≡ 0
+    → Fits (loadReply f out .header) buffer
+    → (saveReply (loadReply f out .header) (loadArrays f out) buffer .refusal ≡ 0)
+    × (savedFile (loadReply f out .header) (loadArrays f out) buffer ≡ f)
 
 pub record TableClaims : Type 0 where
   pub soundIff : SoundIff
@@ -111,5 +131,6 @@ pub record TableClaims : Type 0 where
   pub tableBalanced : TableBalanced
   pub findPlaced : FindPlaced
   pub placeFound : PlaceFound
+  pub savedLength : SavedLength
   pub savedLoaded : SavedLoaded
   pub loadedSaved : LoadedSaved

@@ -2,7 +2,7 @@
 use Rattle.model.proofs.Soundness.{sound-iff, same-sound, initial-sound, written-read, initial-read}
 use Rattle.model.proofs.Places.{size-due, table-balanced}
 use Rattle.model.proofs.Finds.{find-placed, place-found}
-use Rattle.model.proofs.Files.{load-sound, load-read, saved-loaded, loaded-saved}
+use Rattle.model.proofs.Files.{load-sound, load-read, save-length, saved-loaded, loaded-saved}
 use Rattle.model.proofs.table_claims.Statement.{statement}
 use Rattle.model.proofs.table_claims.Tie as tie
 
@@ -20,6 +20,7 @@ returns c =
       tableBalanced = table-balanced;
       findPlaced = find-placed;
       placeFound = place-found;
+      savedLength = save-length;
       savedLoaded = saved-loaded;
       loadedSaved = loaded-saved;
     }
