@@ -10,7 +10,7 @@ use lib.ListN.{length, getD, take, length-append, List·getD-append}
 use lib.Seq.{length-take-le, take-all, getD-take, getD-append-add}
 use borrow.Author.Tests.{le-ltb, eqb-true, eq-eqb, not-false}
 use Rattle.model.specs.Basics.{from, joined, before}
-use Rattle.model.specs.Table.{Arrays, table, over, written}
+use Rattle.model.specs.Table.{Arrays, table, written}
 use Rattle.model.specs.Refusal.{first, arraysShort, adjustmentOf, adjustmentsWrong, roomShort}
 use Rattle.model.specs.Sound.{Sound}
 use Rattle.model.specs.Saved.{
@@ -393,19 +393,18 @@ module _ (h : Header) (a : Arrays) (buffer : List ℕ) (s : Sound h a) (room : F
   save-accepted =
       first-after (tableTests h a) _ (table-numbered h a) (sound-iff h a .1 s) ∙ first-pass _ _ (le-ltb _ _ room) first-none
 
-  -- an accepted `save` replies with the length, and writes the bytes
+  -- an accepted `save` replies with the length
   save-reply : saveReply h a buffer ≡ record { refusal = 0; length = savedLength (h .«block_count») (h .«interval_count») }
   unfolding saveReply
   save-reply = accepted (saveRefusal h a buffer) _ _ save-accepted
 
-  save-bytes : saveBytes h a buffer ≡ over (saved (table h a)) buffer
-  unfolding saveBytes
-  save-bytes = accepted (saveRefusal h a buffer) _ _ save-accepted
-
-  -- so the file is the saved table
+  -- and its file is the saved table
   save-file : savedFile h a buffer ≡ saved (table h a)
+  unfolding saveBytes
   save-file =
-      ap₂ take (ap (λ (v : SaveReply). v .length) save-reply ∙ sym (saved-length h a s)) save-bytes
+      ap₂ take
+      (ap (λ (v : SaveReply). v .length) save-reply ∙ sym (saved-length h a s))
+      (accepted (saveRefusal h a buffer) _ _ save-accepted)
       ∙ take-over (saved (table h a)) buffer
 
 pub save-length : SavedLength

@@ -395,7 +395,7 @@ arrays-written r t out e = accepted r (written t out) out e
 
 -- so the table is there
 pub written-read : WrittenRead
-written-read t out = (refl, table-written t out)
+written-read = table-written
 
 pub table-left
     : (r m : ℕ) (t : Table) (out : Arrays) → r ≡ 0 → Holds (tableReply r m t .header) (arraysAfter r t out) t

@@ -1,6 +1,6 @@
 -- Demand 3: the calls of any history leave tables of the accepted sizes and move the least in total, so no rival moves less.
 -- Assumes nothing.
-use Prim.Native.Nat.{ℕ, _≤_}
+use Prim.Native.Nat.{ℕ, _+_, _≤_}
 use mathlib.Core.Path.{_≡_, refl, sym, _∙_, ap, ap₂, subst₂}
 use mathlib.Core.Logic.{⊎-elim}
 use mathlib.Core.List.{List, [], _∷_, _++_}
@@ -126,20 +126,28 @@ module _ (st : State) (c : Call) where
 abbrev Least : Shape → Played → Type 0
 Least s p = (p .moved ≡ leastTotal s (p .shapes)) × Growing s (p .shapes)
 
--- so they do with a refused call in front of them, and with an accepted one that moves the least
-least-refused
-    : (s z : Shape) (r : TableReply) (p : Played) → (r .refusal ≡ 0 → ⊥) → r .moved ≡ 0 → Least s p → Least s (added r z p)
-unfolding added
-least-refused s z r p e m rest = rw (refused (r .refusal) (z ∷ p .shapes) (p .shapes) e) (omega arith, rest .1)
+module _ (s z : Shape) (r : TableReply) (p : Played) where
+  -- a call adds the buckets that it moved, and its sizes where it is accepted
+  moved-added : added r z p .moved ≡ r .moved + p .moved
+  unfolding added
+  moved-added = refl
 
-least-accepted
-    : (s z : Shape) (r : TableReply) (p : Played) → r .refusal ≡ 0 → r .moved ≡ least s z → Grows s z → Least z p
-    → Least s (added r z p)
-unfolding added
-least-accepted s z r p e m g rest =
-    rw (accepted (r .refusal) (z ∷ p .shapes) (p .shapes) e) (omega arith, (g, rest .1))
+  shapes-refused : (r .refusal ≡ 0 → ⊥) → added r z p .shapes ≡ p .shapes
+  unfolding added
+  shapes-refused e = refused _ _ _ e
 
--- so any list of calls does, each of which is lent the table that the calls before it left
+  shapes-accepted : r .refusal ≡ 0 → added r z p .shapes ≡ z ∷ p .shapes
+  unfolding added
+  shapes-accepted e = accepted _ _ _ e
+
+  -- so calls move the least with a refused one in front of them, and with an accepted one that moves the least
+  least-refused : (r .refusal ≡ 0 → ⊥) → r .moved ≡ 0 → Least s p → Least s (added r z p)
+  least-refused e m rest = rw (shapes-refused e) (omega (arith, moved-added), rest .1)
+
+  least-accepted : r .refusal ≡ 0 → r .moved ≡ least s z → Grows s z → Least z p → Least s (added r z p)
+  least-accepted e m g rest = rw (shapes-accepted e) (omega (arith, moved-added), (g, rest .1))
+
+-- so does any list of calls, each of which is lent the table that the calls before it left
 totals : MovedLeast → (cs : List Call) (st : State) → Lends st cs → Least (shape (tableOf st)) (played st cs)
 unfolding played
 totals exact [] st lends = (refl, tt)

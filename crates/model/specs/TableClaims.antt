@@ -30,7 +30,7 @@ use Rattle.model.specs.declared.table.Header.{Header}
 abbrev pub SoundIff : Type 0
 SoundIff = (h : Header) (a : Arrays) → (first (tableTests h a) ≡ 0) ↔ Sound h a
 
--- what holds of a sound table's arrays holds of all that hold the same table and are no shorter than its counts
+-- soundness is the table's: arrays that hold the table of sound ones, and are no shorter than its counts, are sound
 abbrev pub SameSound : Type 0
 SameSound = (h : Header) (a b : Arrays) → Sound h a → table h b ≡ table h a → arraysShort h b ≡ false → Sound h b
 
@@ -41,15 +41,14 @@ InitialSound = (s : Shape) (out : Arrays) → initialRefusal s out ≡ 0 → Sou
 abbrev pub LoadSound : Type 0
 LoadSound = (f : List ℕ) (out : Arrays) → loadRefusal f out ≡ 0 → Sound (loadReply f out .header) (loadArrays f out)
 
--- a header and arrays hold a table: the header is the table's, and they give it
+-- a table written into arrays and read back is that table
+abbrev pub WrittenRead : Type 0
+WrittenRead = (t : Table) (out : Arrays) → table (header t) (written t out) ≡ t
+
+-- so what an accepted call replies and writes holds the table of its definition: the header is the table's, and the arrays give it
 abbrev pub Holds : Header → Arrays → Table → Type 0
 Holds h a t = (h ≡ header t) × (table h a ≡ t)
 
--- a table written into arrays and read back is that table
-abbrev pub WrittenRead : Type 0
-WrittenRead = (t : Table) (out : Arrays) → Holds (header t) (written t out) t
-
--- so what an accepted call replies and writes holds the table of its definition
 abbrev pub InitialRead : Type 0
 InitialRead =
     (s : Shape) (out : Arrays) → initialRefusal s out ≡ 0
