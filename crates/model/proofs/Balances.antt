@@ -8,9 +8,10 @@ use native.Mathlib.Omega.{arith}
 use lib.Dec.{ltb, eqb}
 use Rattle.model.specs.Basics.{bit, sum, count}
 use Rattle.model.specs.Table.{Shape}
+use Rattle.model.specs.Place.{size}
 use Rattle.model.specs.Due.{due}
-use Rattle.model.specs.Claims.{dueBelow, BalancedExists, MostHeld}
-use Rattle.model.specs.Balance.{size, Balanced, heldBelow, most}
+use Rattle.model.specs.Balance.{Balanced, heldBelow, dueBelow, most}
+use Rattle.model.specs.Claims.{BalancedExists, MostHeld}
 use Rattle.model.proofs.Counts.{bit-lt, bit-eq, bit-ne, below-or, sum-ext, sum-split, sum-const, sum-upper, sum-lower, sum-upper-at, sum-swap, sum-point}
 use Rattle.model.proofs.Dues.{due-more, due-less, dues-below}
 
@@ -66,7 +67,7 @@ module _ (s : Shape) (f : ℕ → ℕ) (b : Balanced s f) where
 -- none holds more than T
 pub held-at-most
     : (s s′ : Shape) (g : ℕ → ℕ) → s .bins ≤ s′ .bins → Balanced s′ g → heldBelow g (s′ .buckets) (s .bins) ≤ most s s′
-unfolding most
+unfolding most dueBelow
 held-at-most s s′ g le b =
     let q = s′ .buckets / s′ .bins in
     let d = s′ .bins - s .bins in
@@ -177,7 +178,7 @@ balanced-exists s some =
 
 -- T is the most that the old bins hold
 pub most-held : MostHeld
-unfolding most dueBelow
+unfolding most
 most-held s s′ grows = (
   λ g b. held-at-most s s′ g (grows .bins) b,
   ((λ x. x % s′ .bins), balanced-exists s′ some, held),

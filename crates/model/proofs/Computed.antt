@@ -2,7 +2,7 @@
 use mathlib.Core.Path.{refl}
 use Rattle.model.specs.Basics.{if_then_else_, _and_, _or_, bit, sum, count, all, from, joined, before}
 use Rattle.model.specs.Table.{bins, shape, firstBin, blockBins, table, header, over, written}
-use Rattle.model.specs.Place.{intervalOf, blockOf, rank, bin, position, held, others, binSize}
+use Rattle.model.specs.Place.{intervalOf, blockOf, rank, bin, position, held, others, size, binSize}
 use Rattle.model.specs.Search.{intervalAt, indexOf, located, placeOf, placeAt, blockOfBin, rankAt, includes, holder, foundOf, heldAt, foundAt}
 use Rattle.model.specs.Due.{due, dueOfBins, dueOfBlock}
 use Rattle.model.specs.Refusal.{first, searched, outside, rises, headerOutside, arraysShort, topsWrong, endsWrong, blocksWrong, holdingsWrong, adjustmentOf, adjustmentsWrong, sizeOutside, fewBuckets, shrinks, unchanged, blocksFull, bucketPast, binPast, roomShort}
@@ -11,12 +11,13 @@ use Rattle.model.specs.Expansion.{newTops, has, dueAfter, someFall, last
 use Rattle.model.specs.Relocations.{row, rowIf, rows, page}
 use Rattle.model.specs.Calls.{answer, tableTests, sizeTests, growthTests, intervalsFull, tableReply, arraysAfter, initialRefusal, initialReply, initialArrays, expandRefusal, expandReply, expandArrays, relocationsAnswer, bufferAfter, orderTests, rowsOf, relocationsRefusal, relocationsReply, relocationsRows, placeAnswer, findAnswer, binSizeAnswer, placeTests, findTests, binSizeTests, placeReply, findReply, binSizeReply, roomRefusal, roomReply, saveTests, saveRefusal, saveReply, saveBytes, loadTests, loadRefusal, loadReply, loadArrays}
 use Rattle.model.specs.Console.{text, inFront, linesOf, wordsOf, same, digitsOnly, valueFrom, value, isNumber, command, read, digits, decimal, line, noMap, current, isFresh, isUnreadable, commandTests, commandRefusal, moveLines, accepted, acceptedText, after, printed, printedAll, output}
-use Rattle.model.specs.Figures.{blank, started, grow, grows, answered, computed, starred}
+use Rattle.model.specs.History.{started, replyOf, next, added, played, handedOn}
+use Rattle.model.specs.Figures.{blank, grown, answered, computed, starred}
 use Rattle.model.specs.Claims.{Figures, Listing}
 
 pub figures : Figures
 unfolding if_then_else_ _and_ _or_ bit sum count all from joined before bins shape firstBin blockBins table header
-    over written intervalOf indexOf blockOf rank bin position held others binSize intervalAt located placeOf placeAt
+    over written intervalOf indexOf blockOf rank bin position held others size binSize intervalAt located placeOf placeAt
     blockOfBin rankAt includes holder foundOf heldAt foundAt due dueOfBins dueOfBlock first searched outside rises
     headerOutside arraysShort topsWrong endsWrong blocksWrong holdingsWrong adjustmentOf adjustmentsWrong sizeOutside
     fewBuckets shrinks unchanged blocksFull bucketPast binPast roomShort initial newTops has dueAfter someFall
@@ -27,12 +28,13 @@ unfolding if_then_else_ _and_ _or_ bit sum count all from joined before bins sha
     binSizeTests placeReply findReply binSizeReply roomRefusal roomReply saveTests saveRefusal saveReply saveBytes
     loadTests loadRefusal loadReply loadArrays text inFront linesOf wordsOf same digitsOnly valueFrom value isNumber
     command read digits decimal line noMap current isFresh isUnreadable commandTests commandRefusal moveLines accepted
-    acceptedText after printed printedAll output blank started grow grows answered computed starred
+    acceptedText after printed printedAll output started replyOf next added played handedOn blank grown
+    answered computed starred
 figures = refl
 
 pub listing : Listing
 unfolding if_then_else_ _and_ _or_ bit sum count all from joined before bins shape firstBin blockBins table header
-    over written intervalOf indexOf blockOf rank bin position held others binSize intervalAt located placeOf placeAt
+    over written intervalOf indexOf blockOf rank bin position held others size binSize intervalAt located placeOf placeAt
     blockOfBin rankAt includes holder foundOf heldAt foundAt due dueOfBins dueOfBlock first searched outside rises
     headerOutside arraysShort topsWrong endsWrong blocksWrong holdingsWrong adjustmentOf adjustmentsWrong sizeOutside
     fewBuckets shrinks unchanged blocksFull bucketPast binPast roomShort initial newTops has dueAfter someFall
@@ -43,5 +45,6 @@ unfolding if_then_else_ _and_ _or_ bit sum count all from joined before bins sha
     binSizeTests placeReply findReply binSizeReply roomRefusal roomReply saveTests saveRefusal saveReply saveBytes
     loadTests loadRefusal loadReply loadArrays text inFront linesOf wordsOf same digitsOnly valueFrom value isNumber
     command read digits decimal line noMap current isFresh isUnreadable commandTests commandRefusal moveLines accepted
-    acceptedText after printed printedAll output blank started grow grows answered computed starred
+    acceptedText after printed printedAll output started replyOf next added played handedOn blank grown
+    answered computed starred
 listing = refl

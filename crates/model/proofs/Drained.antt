@@ -11,7 +11,7 @@ use lib.ListN.{length}
 use borrow.Author.Tests.{eq-eqb, ne-eqb, lt-ltb, le-ltb, le-leb, lt-leb}
 use Rattle.model.specs.Basics.{if_then_else_, _and_, sum}
 use Rattle.model.specs.Table.{Shape, Interval, interval, Table, shape}
-use Rattle.model.specs.Place.{blockOf}
+use Rattle.model.specs.Place.{blockOf, size}
 use Rattle.model.specs.Expansion.{
   has,
   dueAfter,
@@ -25,7 +25,7 @@ use Rattle.model.specs.Expansion.{
   extended,
   drained,
 }
-use Rattle.model.specs.Balance.{size, least}
+use Rattle.model.specs.Balance.{least}
 use Rattle.model.specs.declared.plan.Action.the-variants.{Stay, Move, Split}
 use Rattle.model.proofs.Counts.{below-or, sum-suc, sum-ext}
 use Rattle.model.proofs.Listed.{

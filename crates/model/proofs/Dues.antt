@@ -13,7 +13,8 @@ use Rattle.model.specs.Basics.{if_then_else_, sum, before}
 use Rattle.model.specs.Table.{Shape, firstBin, blockBins}
 use Rattle.model.specs.Due.{due, dueOfBins, dueOfBlock}
 use Rattle.model.specs.Refusal.{rises}
-use Rattle.model.specs.Claims.{dueBelow, ClosedForm, OneWay, DuesSum, BlockDuesSum}
+use Rattle.model.specs.Balance.{dueBelow}
+use Rattle.model.specs.Claims.{ClosedForm, OneWay, DuesSum, BlockDuesSum}
 use Rattle.model.proofs.Counts.{below-or, all-at, sum-le, sum-split}
 
 -- the due of a bin below the remainder, and of one that is not

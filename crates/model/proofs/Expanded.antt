@@ -10,14 +10,13 @@ use borrow.Author.Tests.{ltb-false, eq-eqb}
 use Rattle.model.specs.Basics.{if_then_else_}
 use Rattle.model.specs.Limits.{maxIntervals}
 use Rattle.model.specs.Table.{Shape, Interval, Table, bins, shape, Arrays, table}
-use Rattle.model.specs.Place.{intervalOf, blockOf, rank}
+use Rattle.model.specs.Place.{intervalOf, blockOf, rank, size}
 use Rattle.model.specs.Due.{dueOfBlock}
 use Rattle.model.specs.Refusal.{first, roomShort}
-use Rattle.model.specs.Expansion.{newTops, dueAfter, someFall, filled, drained, expanded}
+use Rattle.model.specs.Expansion.{newTops, dueAfter, someFall, filled, drained, expanded, moved}
 use Rattle.model.specs.Calls.{tableTests, growthTests, intervalsFull, answer, tableReply, arraysAfter, expandRefusal, expandReply, expandArrays}
 use Rattle.model.specs.TableClaims.{SoundIff}
-use Rattle.model.specs.ExpansionClaims.{ExpandSound, Stays, ExpandStays}
-use Rattle.model.specs.Balance.{size}
+use Rattle.model.specs.ExpansionClaims.{ExpandSound, ExpandRead, Stays, ExpandStays}
 use Rattle.model.specs.declared.table.Header.{Header}
 use Rattle.model.proofs.Counts.{bit-cases, below-or}
 use Rattle.model.proofs.Listed.{Placed, size-same, tells-same, tells-placed}
@@ -26,7 +25,7 @@ use Rattle.model.proofs.Growths.{Accepted, accepted, old-below, tops-la
 use Rattle.model.proofs.Filled.{filledBlock, filled-old, filled-grown}
 use Rattle.model.proofs.Drained.{drainedBlock, drained-stays, drained-moves, drained-new, drained-kept, drained-grown}
 use Rattle.model.proofs.Refusals.{first-number, first-both}
-use Rattle.model.proofs.Soundness.{table-numbered, growth-numbered}
+use Rattle.model.proofs.Soundness.{table-numbered, growth-numbered, table-left}
 
 -- the new table with given intervals
 abbrev pub grownTable : Table → Shape → List Interval → Table
@@ -190,3 +189,8 @@ expand-sound sound-iff h a s out q =
     let (tests, growth, limit) = expand-passes h a s out q in
     let w = expanded-well t s (sound-well h a (sound-iff h a .0 tests)) (accepted t s growth) limit in
     rw (eq-eqb (expandRefusal h a s out) 0 q) (well-sound (expanded t s) w out)
+
+-- and it is the table of its definition
+pub expand-read : ExpandRead
+unfolding expandReply expandArrays
+expand-read h a s out q = table-left (expandRefusal h a s out) (moved (table h a) (expanded (table h a) s)) _ out q

@@ -24,9 +24,10 @@ use Rattle.model.specs.Saved.{
   readArrays,
   loadedArrays,
 }
-use Rattle.model.specs.Calls.{loadTests, loadRefusal, loadReply, loadArrays}
-use Rattle.model.specs.TableClaims.{LoadSound, SavedLoaded, LoadedSaved}
+use Rattle.model.specs.Calls.{tableTests, saveTests, saveRefusal, saveReply, saveBytes, loadTests, loadRefusal, loadReply, loadArrays}
+use Rattle.model.specs.TableClaims.{LoadSound, LoadRead, Fits, SavedLength, savedFile, SavedLoaded, LoadedSaved}
 use Rattle.model.specs.declared.table.Header.{Header}
+use Rattle.model.specs.declared.reply.SaveReply.{SaveReply}
 use Rattle.model.specs.declared.reply.LoadReply.{LoadReply}
 use Rattle.model.proofs.Intervals.{Rising, before-mono}
 use Rattle.model.proofs.Refusals.{
@@ -37,6 +38,7 @@ use Rattle.model.proofs.Refusals.{
   first-clear,
   first-pass,
   first-none,
+  first-after,
   accepted,
 }
 use Rattle.model.proofs.Tables.{
@@ -47,7 +49,9 @@ use Rattle.model.proofs.Tables.{
   from-append,
   from-getD,
   map-from,
+  take-over,
   lentInterval,
+  header-table,
   table-again,
   Alike,
   adjustment-alike,
@@ -58,6 +62,8 @@ use Rattle.model.proofs.Soundness.{
   not-all,
   passes-sound,
   sound-passes,
+  sound-iff,
+  table-numbered,
   sound-alike,
   sound-written,
   arrays-written,
@@ -222,6 +228,15 @@ load-sound f out e =
     (sound-written (loadedHeader f) (loadedArrays f) out
     (passes-sound (loadedHeader f) (loadedArrays f) (load-passes f out e)))
 
+-- and it is the table of the file
+pub load-read : LoadRead
+unfolding loadedArrays readArrays
+load-read f out e = (
+  load-header f out e ∙ sym (header-table (loadedHeader f) (loadedArrays f) (counted _ _ _)),
+  ap₂ table (load-header f out e) (load-arrays f out e)
+      ∙ table-again (loadedHeader f) (loadedArrays f) out (counted _ _ _),
+)
+
 -- THE NUMBERS OF A SAVED TABLE
 
 -- the tops, ends and blocks are no shorter than their counts
@@ -338,7 +353,7 @@ numbers-small h a s (suc (suc (suc i))) =
     (small-take (a .blocks) (h .«interval_count») (λ i l. omega (arith, s .blocksBelow i l)))
     i
 
--- SAVED, THEN LOADED
+-- A SAVED TABLE
 
 module _ (h : Header) (a : Arrays) (s : Sound h a) where
   -- its arrays are long enough
@@ -370,6 +385,37 @@ module _ (h : Header) (a : Arrays) (s : Sound h a) where
         «block_count» = saved-number 1 (omega arith) i;
         «interval_count» = saved-number 2 (omega arith) i;
       }
+
+-- saved into a buffer with room
+module _ (h : Header) (a : Arrays) (buffer : List ℕ) (s : Sound h a) (room : Fits h buffer) where
+  save-accepted : saveRefusal h a buffer ≡ 0
+  unfolding saveRefusal saveTests savedLength
+  save-accepted =
+      first-after (tableTests h a) _ (table-numbered h a) (sound-iff h a .1 s) ∙ first-pass _ _ (le-ltb _ _ room) first-none
+
+  -- an accepted `save` replies with the length
+  save-reply : saveReply h a buffer ≡ record { refusal = 0; length = savedLength (h .«block_count») (h .«interval_count») }
+  unfolding saveReply
+  save-reply = accepted (saveRefusal h a buffer) _ _ save-accepted
+
+  -- and its file is the saved table
+  save-file : savedFile h a buffer ≡ saved (table h a)
+  unfolding saveBytes
+  save-file =
+      ap₂ take
+      (ap (λ (v : SaveReply). v .length) save-reply ∙ sym (saved-length h a s))
+      (accepted (saveRefusal h a buffer) _ _ save-accepted)
+      ∙ take-over (saved (table h a)) buffer
+
+pub save-length : SavedLength
+unfolding savedLength
+save-length h a buffer s room = (
+  ap (λ (v : SaveReply). v .refusal) (save-reply h a buffer s room),
+  ap (λ (v : SaveReply). v .length) (save-reply h a buffer s room),
+  saved-length h a s,
+)
+
+-- SAVED, THEN LOADED
 
 -- a file keeps the tops, ends and blocks of a lent table
 pub record Keeps (f : List ℕ) (a : Arrays) (h : Header) : Type 0 where
@@ -440,8 +486,12 @@ module _ (f : List ℕ) (a : Arrays) (k : Keeps f a (loadedHeader f)) where
       ∙ sym (table-alike (loadedHeader f) a (loadedArrays f) loaded-alike (k .sound .topsLong) (counted _ _ _) loaded-adjustments)
 
 -- a sound table, saved and loaded, is the same table
-pub saved-loaded : SavedLoaded
-saved-loaded h a out s r =
+saved-again
+    : (h : Header) (a out : Arrays) → Sound h a → roomShort out ≡ false
+    → (loadRefusal (saved (table h a)) out ≡ 0)
+    × (loadReply (saved (table h a)) out .header ≡ h)
+    × (table h (loadArrays (saved (table h a)) out) ≡ table h a)
+saved-again h a out s r =
     let e = saved-header h a s in
     let k : Keeps (saved (table h a)) a (loadedHeader (saved (table h a))) =
     subst (Keeps (saved (table h a)) a) (sym e) (saved-keeps h a s) in
@@ -450,6 +500,9 @@ saved-loaded h a out s r =
       load-header (saved (table h a)) out z ∙ e,
       subst (λ g. table g (loadArrays (saved (table h a)) out) ≡ table g a) e (loaded-table (saved (table h a)) a k out r),
     )
+
+pub saved-loaded : SavedLoaded
+saved-loaded h a buffer out s room r = rw (save-file h a buffer s room) (saved-again h a out s r)
 
 -- LOADED, THEN SAVED
 
@@ -482,11 +535,18 @@ loaded-numbers f =
     (three-parts (number f) 3 (number f 1) (number f 2) (number f 2))
 
 -- an accepted file, loaded and saved, is the same bytes
-pub loaded-saved : LoadedSaved
+loaded-again
+    : (f : List ℕ) (out : Arrays) → ((i : ℕ) → i < length f → getD f i 0 < 256) → loadRefusal f out ≡ 0
+    → saved (table (loadReply f out .header) (loadArrays f out)) ≡ f
 unfolding saved savedLength
-loaded-saved f out s e =
-    ap₂ (λ h b. saved (table h b)) (load-header f out e) (load-arrays f out e)
-    ∙ ap saved (table-again (loadedHeader f) (loadedArrays f) out (loaded-long f .tops))
+loaded-again f out s e =
+    ap saved (load-read f out e .1)
     ∙ ap (λ xs. joined (map bytesOf xs))
     (saved-numbers (loadedHeader f) (loadedArrays f) (loaded-long f) ∙ loaded-numbers f)
     ∙ joined-numbers _ f (omega (arith, load-length f out e)) s
+
+pub loaded-saved : LoadedSaved
+loaded-saved f out buffer s e room = (
+  save-length _ _ buffer (load-sound f out e) room .0,
+  save-file _ _ buffer (load-sound f out e) room ∙ loaded-again f out s e,
+)

@@ -10,9 +10,9 @@ use lib.ListN.{length}
 use borrow.Author.Tests.{eq-eqb, ne-eqb, lt-ltb, le-ltb}
 use Rattle.model.specs.Basics.{if_then_else_}
 use Rattle.model.specs.Table.{Shape, Interval, interval, Table, shape}
-use Rattle.model.specs.Place.{intervalOf, blockOf}
+use Rattle.model.specs.Place.{intervalOf, blockOf, size}
 use Rattle.model.specs.Expansion.{newTops, has, dueAfter, lastBlock, lengthened, gain, pieces, filled}
-use Rattle.model.specs.Balance.{size, least}
+use Rattle.model.specs.Balance.{least}
 use Rattle.model.proofs.Counts.{sum-le}
 use Rattle.model.proofs.Listed.{
   Told,

@@ -13,13 +13,12 @@ use borrow.Author.Tests.{ltb-false, eqb-false, le-leb, leb-true, lt-ltb, le-ltb,
 use Rattle.model.specs.Basics.{if_then_else_, _and_, sum, before}
 use Rattle.model.specs.Limits.{maxBuckets, maxBins, maxBlocks}
 use Rattle.model.specs.Table.{Shape, Interval, Table, bins, shape}
-use Rattle.model.specs.Place.{blockOf, held}
+use Rattle.model.specs.Place.{blockOf, held, size}
 use Rattle.model.specs.Due.{dueOfBlock}
 use Rattle.model.specs.Refusal.{first, sizeOutside, fewBuckets, shrinks, unchanged, blocksFull}
 use Rattle.model.specs.Expansion.{newTops, has, dueAfter, someFall}
-use Rattle.model.specs.Claims.{dueBelow}
 use Rattle.model.specs.Calls.{sizeTests, growthTests}
-use Rattle.model.specs.Balance.{size, most}
+use Rattle.model.specs.Balance.{dueBelow, most}
 use Rattle.model.proofs.Counts.{below-or, all-at, all-holds, sum-le, sum-ext}
 use Rattle.model.proofs.Dues.{one-way, block-dues-below, dues-below, dues-sum}
 use Rattle.model.proofs.Intervals.{Rising}
@@ -189,7 +188,7 @@ module _ (t : Table) (s : Shape) (w : Well t) (a : Accepted t s) where
 
   -- those of the old blocks sum to T
   pub old-most : sum (dueAfter t s) (length (t .tops)) ≡ most (shape t) s
-  unfolding most dueBelow shape bins
+  unfolding most shape bins
   old-most =
       sum-ext (dueAfter t s) (dueOfBlock s (t .tops)) (length (t .tops)) (due-old t s)
       ∙ block-dues-below s (t .tops) (length (t .tops)) (w .topsRise)

@@ -18,7 +18,7 @@ use Rattle.model.specs.Table.{Shape, interval, bins, shape, Arrays, arra
 use Rattle.model.specs.Place.{intervalOf, blockOf, held, others}
 use Rattle.model.specs.Due.{dueOfBlock}
 use Rattle.model.specs.Refusal.{holdingsWrong, adjustmentOf, adjustmentsWrong}
-use Rattle.model.specs.Claims.{dueBelow}
+use Rattle.model.specs.Balance.{dueBelow}
 use Rattle.model.specs.declared.table.Header.{Header}
 use Rattle.model.proofs.Counts.{below-or, all-holds, sum-ext}
 use Rattle.model.proofs.Intervals.{Rising, before-mono, held-own, held-other, held-others}

@@ -9,9 +9,9 @@ use lib.Dec.{ltb, eqb}
 use borrow.Author.Tests.{lt-ltb, le-ltb}
 use Rattle.model.specs.Basics.{if_then_else_, bit, sum, count}
 use Rattle.model.specs.Table.{Interval}
-use Rattle.model.specs.Place.{intervalOf}
+use Rattle.model.specs.Place.{intervalOf, size}
 use Rattle.model.specs.Expansion.{lastBlock, lengthened}
-use Rattle.model.specs.Balance.{size, heldBelow}
+use Rattle.model.specs.Balance.{heldBelow}
 use Rattle.model.proofs.Counts.{
   bit-lt,
   bit-le,

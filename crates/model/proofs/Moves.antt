@@ -13,15 +13,14 @@ use lib.Seq.{length-take-le}
 use borrow.Author.Tests.{ltb-false, lt-ltb, le-ltb}
 use Rattle.model.specs.Basics.{if_then_else_, bit, sum, count, from, joined, before}
 use Rattle.model.specs.Table.{Shape, Table, bins, shape, firstBin, blockBins, Arrays, table}
-use Rattle.model.specs.Place.{blockOf, bin, position, held}
+use Rattle.model.specs.Place.{blockOf, bin, position, held, size}
 use Rattle.model.specs.Due.{dueOfBlock}
 use Rattle.model.specs.Refusal.{first, shrinks}
 use Rattle.model.specs.Sound.{Sound}
 use Rattle.model.specs.Expansion.{newTops, expanded, differs, moved}
 use Rattle.model.specs.Relocations.{rowIf, rows}
 use Rattle.model.specs.Calls.{sizeTests, growthTests}
-use Rattle.model.specs.Balance.{size, heldBelow, most, least, Grows}
-use Rattle.model.specs.Claims.{dueBelow}
+use Rattle.model.specs.Balance.{heldBelow, dueBelow, most, least, Grows}
 use Rattle.model.specs.ExpansionClaims.{Stays, ExpandStays, ExpandPlaces, MovedLeast}
 use Rattle.model.specs.declared.table.Header.{Header}
 use Rattle.model.proofs.Counts.{
@@ -221,7 +220,7 @@ module _ (h : Header) (a : Arrays) (s : Shape) (sound : Sound h a) where
 
     -- after the growth the old blocks hold T
     old-held : OldHoldings → heldBelow (blockOf (after h a s)) (s .buckets) (h .«block_count») ≡ most (shape (table h a)) s
-    unfolding most dueBelow shape size held
+    unfolding most shape size held
     old-held dues =
         sym (sizes-below (blockOf (after h a s)) (s .buckets) (h .«block_count»))
         ∙ sum-ext _ _ (h .«block_count») (dues h a s sound accepted)

@@ -28,13 +28,12 @@ use lib.Seq.{getD-take, length-take-le}
 use borrow.Author.Tests.{lt-ltb, le-ltb}
 use Rattle.model.specs.Basics.{if_then_else_, bit, count, before}
 use Rattle.model.specs.Table.{Shape, bins, shape, firstBin, blockBins, Arrays, table}
-use Rattle.model.specs.Place.{blockOf, rank, bin, held, binSize}
+use Rattle.model.specs.Place.{blockOf, rank, bin, held, size, binSize}
 use Rattle.model.specs.Search.{blockOfBin}
 use Rattle.model.specs.Due.{due, dueOfBins, dueOfBlock}
-use Rattle.model.specs.Claims.{dueBelow}
+use Rattle.model.specs.Balance.{dueBelow}
 use Rattle.model.specs.Sound.{Sound}
 use Rattle.model.specs.TableClaims.{SizeDue, TableBalanced}
-use Rattle.model.specs.Balance.{size}
 use Rattle.model.specs.declared.table.Header.{Header}
 use Rattle.model.proofs.Counts.{bit-lt, bit-ge, bit-le, bit-eq, bit-ne, below-or, sum-ext}
 use Rattle.model.proofs.Dues.{due-more, due-less, closed-form}

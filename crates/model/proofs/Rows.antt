@@ -11,13 +11,13 @@ use lib.Seq.{getD-take}
 use borrow.Author.Tests.{eq-eqb, ne-eqb}
 use Rattle.model.specs.Basics.{if_then_else_, from, joined, before}
 use Rattle.model.specs.Table.{Shape, Interval, Table, Arrays, table, bins, shape, firstBin, blockBins}
-use Rattle.model.specs.Place.{blockOf, rank, bin, position}
+use Rattle.model.specs.Place.{blockOf, rank, bin, position, size}
 use Rattle.model.specs.Refusal.{first}
 use Rattle.model.specs.Sound.{Sound}
 use Rattle.model.specs.Expansion.{dueAfter, someFall, drained, expanded, differs}
 use Rattle.model.specs.Relocations.{row, rowIf, rows}
 use Rattle.model.specs.Calls.{growthTests}
-use Rattle.model.specs.Balance.{size, least}
+use Rattle.model.specs.Balance.{least}
 use Rattle.model.specs.declared.table.Header.{Header}
 use Rattle.model.proofs.Counts.{bit-cases, below-or}
 use Rattle.model.proofs.Intervals.{before-mono, block-at, rank-at}

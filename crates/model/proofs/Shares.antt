@@ -25,7 +25,7 @@ use Rattle.model.specs.Limits.{maxBlocks}
 use Rattle.model.specs.Table.{Shape, Table, bins, shape, firstBin, blockBins}
 use Rattle.model.specs.Due.{dueOfBins, dueOfBlock}
 use Rattle.model.specs.Expansion.{newTops, has, dueAfter, someFall}
-use Rattle.model.specs.Claims.{dueBelow}
+use Rattle.model.specs.Balance.{dueBelow}
 use Rattle.model.proofs.Counts.{below-or}
 use Rattle.model.proofs.Dues.{dues-below, dues-sum, block-closed}
 use Rattle.model.proofs.Intervals.{before-mono}

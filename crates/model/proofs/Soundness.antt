@@ -1,16 +1,17 @@
 -- A lent table is sound exactly where the tests of rules 11 to 16 fail, and the table of `initial` is. Assumes nothing.
 use Prim.Native.Nat.{ℕ, zero, suc, _≤_, _<_}
-use mathlib.Core.Path.{_≡_, refl, sym, _∙_, ap, subst₂}
+use mathlib.Core.Path.{_≡_, refl, sym, _∙_, ap, ap₂, subst₂}
 use mathlib.Core.Bool.{Bool, true, false, not}
 use mathlib.Core.List.{List}
-use native.Mathlib.Nat.{le-refl}
+use native.Mathlib.Nat.{le-refl, zero-add}
 use native.Mathlib.Omega.{arith}
 use lib.Dec.{ltb, eqb}
 use lib.ListN.{length, getD}
+use lib.Seq.{getD-take}
 use borrow.Author.Tests.{ltb-true, ltb-false, lt-ltb, le-ltb, eqb-true, eq-eqb, not-false}
 use Rattle.model.specs.Basics.{sum, count, all, before}
 use Rattle.model.specs.Limits.{maxBuckets, maxBins, maxBlocks, maxIntervals}
-use Rattle.model.specs.Table.{Shape, Table, bins, shape, Arrays, table, header, over, written}
+use Rattle.model.specs.Table.{Shape, interval, Table, bins, shape, Arrays, table, header, over, written}
 use Rattle.model.specs.Place.{held, others}
 use Rattle.model.specs.Due.{dueOfBlock}
 use Rattle.model.specs.Refusal.{
@@ -39,7 +40,7 @@ use Rattle.model.specs.Calls.{
   initialReply,
   initialArrays,
 }
-use Rattle.model.specs.TableClaims.{SoundIff, InitialSound}
+use Rattle.model.specs.TableClaims.{SoundIff, SameSound, InitialSound, Holds, WrittenRead, InitialRead}
 use Rattle.model.specs.declared.table.Header.{Header}
 use Rattle.model.specs.declared.reply.TableReply.{TableReply}
 use Rattle.model.proofs.Counts.{all-at, all-holds}
@@ -48,6 +49,7 @@ use Rattle.model.proofs.Intervals.{held-own}
 use Rattle.model.proofs.Refusals.{
   or-left,
   or-right,
+  or-split,
   or-both,
   not-clear,
   inside,
@@ -59,6 +61,8 @@ use Rattle.model.proofs.Refusals.{
   accepted,
 }
 use Rattle.model.proofs.Tables.{
+  getD-from,
+  lentInterval,
   table-written,
   before-same,
   Alike,
@@ -241,6 +245,45 @@ sound-alike h a b s e tops ends blocks adjustments same =
     end : (i : ℕ) → i ≤ h .«interval_count» → before (a .ends) i ≡ before (b .ends) i
     end = before-same (a .ends) (b .ends) (h .«interval_count») (e .ends)
 
+-- arrays that hold the same table
+module _ (h : Header) (a b : Arrays) (e : table h b ≡ table h a) where
+  same-interval : (i : ℕ) → i < h .«interval_count» → lentInterval a i ≡ lentInterval b i
+  unfolding table
+  same-interval i l =
+      let none = interval 0 0 0 in
+      rw zero-add at
+      (sym (getD-from (lentInterval a) 0 (h .«interval_count») i none l)
+      ∙ sym (ap (λ t. getD (t .intervals) i none) e)
+      ∙ getD-from (lentInterval b) 0 (h .«interval_count») i none l)
+
+  same-top : (j : ℕ) → j < h .«block_count» → getD (a .tops) j 0 ≡ getD (b .tops) j 0
+  unfolding table
+  same-top j l =
+      sym (getD-take (h .«block_count») (a .tops) j 0 l)
+      ∙ sym (ap (λ t. getD (t .tops) j 0) e)
+      ∙ getD-take (h .«block_count») (b .tops) j 0 l
+
+  same-alike : Alike h a b
+  same-alike =
+      record {
+        tops = same-top;
+        ends = λ i l. ap (λ v. v .end) (same-interval i l);
+        blocks = λ i l. ap (λ v. v .block) (same-interval i l);
+      }
+
+pub same-sound : SameSound
+unfolding arraysShort
+same-sound h a b s e long =
+    let (rest, adjustments) = or-split _ _ long in
+    let (front, blocks) = or-split _ _ rest in
+    let (tops, ends) = or-split _ _ front in
+    sound-alike h a b s (same-alike h a b e)
+    (ltb-false _ _ tops)
+    (ltb-false _ _ ends)
+    (ltb-false _ _ blocks)
+    (ltb-false _ _ adjustments)
+    (λ i l. ap (λ v. v .adjustment) (same-interval h a b e i l))
+
 -- a sound table stays sound where it is written
 pub sound-written : (h : Header) (a out : Arrays) → Sound h a → Sound h (written (table h a) out)
 unfolding written
@@ -349,6 +392,19 @@ reply-header r m t e = ap (λ (v : TableReply). v .header) (accepted r _ _ e)
 pub arrays-written : (r : ℕ) (t : Table) (out : Arrays) → r ≡ 0 → arraysAfter r t out ≡ written t out
 unfolding arraysAfter
 arrays-written r t out e = accepted r (written t out) out e
+
+-- so the table is there
+pub written-read : WrittenRead
+written-read = table-written
+
+pub table-left
+    : (r m : ℕ) (t : Table) (out : Arrays) → r ≡ 0 → Holds (tableReply r m t .header) (arraysAfter r t out) t
+table-left r m t out e =
+    (reply-header r m t e, ap₂ table (reply-header r m t e) (arrays-written r t out e) ∙ table-written t out)
+
+pub initial-read : InitialRead
+unfolding initialReply initialArrays
+initial-read s out e = table-left (initialRefusal s out) 0 (initial s) out e
 
 -- the table of an accepted `initial` is sound
 pub initial-sound : InitialSound

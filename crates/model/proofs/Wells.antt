@@ -24,11 +24,10 @@ use Rattle.model.specs.Table.{
   over,
   written,
 }
-use Rattle.model.specs.Place.{blockOf, held}
+use Rattle.model.specs.Place.{blockOf, held, size}
 use Rattle.model.specs.Due.{dueOfBlock}
 use Rattle.model.specs.Refusal.{adjustmentOf}
 use Rattle.model.specs.Sound.{Sound}
-use Rattle.model.specs.Balance.{size}
 use Rattle.model.specs.declared.table.Header.{Header}
 use Rattle.model.proofs.Intervals.{Rising, block-at, held-others}
 use Rattle.model.proofs.Listed.{Told, Tells, tells-same}

@@ -8,10 +8,7 @@ use mathlib.Core.List.{List, [], _∷_}
 use lib.Dec.{ltb, eqb}
 use Rattle.model.specs.Basics.{count}
 use Rattle.model.specs.Table.{Shape}
-
--- the size of bin y: how many of the first b buckets the map f puts into it
-unfoldable pub size : (ℕ → ℕ) → ℕ → ℕ → ℕ
-size f b y = count (λ x. eqb (f x) y) b
+use Rattle.model.specs.Place.{size}
 
 -- a balanced map of the given sizes (source 000, section 2): every bucket below B has a bin below n, and no two bins differ
 -- in size by more than 1
@@ -27,9 +24,13 @@ changed f g b = count (λ x. not (eqb (f x) (g x))) b
 unfoldable pub heldBelow : (ℕ → ℕ) → ℕ → ℕ → ℕ
 heldBelow g b n = count (λ x. ltb (g x) n) b
 
--- T for a growth from sizes s to sizes s′
+-- what the bins below m are due, in closed form: m × floor(B/n) + min(m, B mod n)
+unfoldable pub dueBelow : Shape → ℕ → ℕ
+dueBelow s m = m * (s .buckets / s .bins) + min m (s .buckets % s .bins)
+
+-- T for a growth from sizes s to sizes s′, n × floor(B′/n′) + min(n, B′ mod n′): what the old bins are due
 unfoldable pub most : Shape → Shape → ℕ
-most s s′ = s .bins * (s′ .buckets / s′ .bins) + min (s .bins) (s′ .buckets % s′ .bins)
+most s s′ = dueBelow s′ (s .bins)
 
 -- max(0, B - T)
 unfoldable pub least : Shape → Shape → ℕ

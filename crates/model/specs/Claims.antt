@@ -1,5 +1,5 @@
 -- What is proved of the definitions alone. Each claim is a type; the contract of `claims` is all of them. Assumes nothing.
-use Prim.Native.Nat.{ℕ, _+_, _*_, _/_, _%_, min, _≤_, _<_}
+use Prim.Native.Nat.{ℕ, _+_, _%_, _≤_, _<_}
 use mathlib.Core.Path.{_≡_}
 use mathlib.Core.Logic.{_⊎_, _↔_}
 use mathlib.Core.Bool.{true}
@@ -15,6 +15,7 @@ use Rattle.model.specs.Balance.{
   Balanced,
   changed,
   heldBelow,
+  dueBelow,
   most,
   least,
   Optimal,
@@ -35,10 +36,6 @@ abbrev pub Listing : Type 0
 Listing =
     output (text "fresh 10 2\ngrow 10 3\nwhere 8\nat 2 1\ngrow 14 4\ngrow 14 5\nmoves\nwhere 14\n")
     ≡ text "ok 0 1\nok 3 2\nplace 2 1\nbucket 8\nok 0 4\nok 2 5\nmove 6 0 3 4 0\nmove 10 1 3 4 1\nrefused 6\n"
-
--- what the bins below m are due, in closed form
-unfoldable pub dueBelow : Shape → ℕ → ℕ
-dueBelow s m = m * (s .buckets / s .bins) + min m (s .buckets % s .bins)
 
 -- the closed form of due sizes
 abbrev pub ClosedForm : Type 0

@@ -10,9 +10,10 @@ use Rattle.model.specs.Refusal.{first}
 use Rattle.model.specs.Sound.{Sound}
 use Rattle.model.specs.Expansion.{expanded, moved}
 use Rattle.model.specs.Relocations.{rows}
-use Rattle.model.specs.Calls.{growthTests, initialRefusal, expandRefusal, expandReply, expandArrays}
-use Rattle.model.specs.Balance.{Rival, total, AllOptimal, least}
-use Rattle.model.specs.History.{Call, started, movedTotal, shapes}
+use Rattle.model.specs.Calls.{growthTests, initialRefusal, expandRefusal, expandReply, expandArrays, placeReply}
+use Rattle.model.specs.Balance.{changed, least, Rival, total, AllOptimal}
+use Rattle.model.specs.TableClaims.{Holds}
+use Rattle.model.specs.History.{Call, State, started, history, Lends, handedOn}
 use Rattle.model.specs.declared.table.Header.{Header}
 
 -- the table of an accepted growth is sound
@@ -20,6 +21,12 @@ abbrev pub ExpandSound : Type 0
 ExpandSound =
     (h : Header) (a : Arrays) (s : Shape) (out : Arrays) → expandRefusal h a s out ≡ 0
     → Sound (expandReply h a s out .header) (expandArrays h a s out)
+
+-- and what the growth replies and writes holds the table of its definition
+abbrev pub ExpandRead : Type 0
+ExpandRead =
+    (h : Header) (a : Arrays) (s : Shape) (out : Arrays) → expandRefusal h a s out ≡ 0
+    → Holds (expandReply h a s out .header) (expandArrays h a s out) (expanded (table h a) s)
 
 -- a bucket has the same block and rank in two tables
 abbrev pub Stays : Table → Table → ℕ → Type 0
@@ -52,27 +59,54 @@ MovedLeast =
     → (moved (table h a) (expanded (table h a) s) ≡ least (shape (table h a)) s)
     × (length (rows (table h a) (expanded (table h a) s)) ≡ moved (table h a) (expanded (table h a) s))
 
--- demand 3: for every accepted fresh call, every list of growth calls and every rival of the accepted sizes, our total equals
--- the rival's just where each growth of the rival meets the condition, and is smaller in every other case
+-- and, of an accepted growth, the number of old buckets that `place` finds in another bin of the table that it wrote than of the
+-- table that it read
+abbrev pub MovedReplies : Type 0
+MovedReplies =
+    (h : Header) (a : Arrays) (s : Shape) (out : Arrays) → expandRefusal h a s out ≡ 0
+    → expandReply h a s out .moved
+    ≡ changed
+    (λ x. placeReply h a x .bin)
+    (λ x. placeReply (expandReply h a s out .header) (expandArrays h a s out) x .bin)
+    (h .buckets)
+
+-- demand 3: for every accepted fresh call, every list of growth calls, each lent any arrays that hold the table before it, and
+-- every rival of the accepted sizes, our total equals the rival's just where each growth of the rival meets the condition, and
+-- is smaller in every other case
 abbrev pub LeastTotal : Type 0
 LeastTotal =
-    (c : Call) (cs : List Call) → initialRefusal (c .sizes) (c .out) ≡ 0
-    → (r : Rival (c .sizes) (shapes (started c) cs))
-    → ((movedTotal (started c) cs ≡ total r) ↔ AllOptimal r)
-    × ((movedTotal (started c) cs ≡ total r → ⊥) → movedTotal (started c) cs < total r)
+    (s : Shape) (out : Arrays) (cs : List Call) → initialRefusal s out ≡ 0 → Lends (started s out) cs
+    → (r : Rival s (history s out cs .shapes))
+    → ((history s out cs .moved ≡ total r) ↔ AllOptimal r)
+    × ((history s out cs .moved ≡ total r → ⊥) → history s out cs .moved < total r)
 
 -- the same, decided
 abbrev pub LeastTotalDecided : Type 0
 LeastTotalDecided =
-    (c : Call) (cs : List Call) → initialRefusal (c .sizes) (c .out) ≡ 0
-    → (r : Rival (c .sizes) (shapes (started c) cs))
-    → ((movedTotal (started c) cs ≡ total r) × AllOptimal r)
-    ⊎ ((movedTotal (started c) cs < total r) × (AllOptimal r → ⊥))
+    (s : Shape) (out : Arrays) (cs : List Call) → initialRefusal s out ≡ 0 → Lends (started s out) cs
+    → (r : Rival s (history s out cs .shapes))
+    → ((history s out cs .moved ≡ total r) × AllOptimal r)
+    ⊎ ((history s out cs .moved < total r) × (AllOptimal r → ⊥))
+
+-- the condition on what is lent can be met, for any sizes and any arrays to write to: by the arrays that the latest accepted
+-- call left
+abbrev pub LeftLends : Type 0
+LeftLends = (st : State) (asked : List (Shape × Arrays)) → Lends st (handedOn st asked)
+
+-- these are sound, so by `SameSound` any others are that hold their table and are no shorter than its counts
+abbrev pub LeftSound : Type 0
+LeftSound =
+    (s : Shape) (out : Arrays) (cs : List Call) → initialRefusal s out ≡ 0
+    → Sound (history s out cs .left .header) (history s out cs .left .arrays)
 
 pub record ExpansionClaims : Type 0 where
   pub expandSound : ExpandSound
+  pub expandRead : ExpandRead
   pub expandStays : ExpandStays
   pub expandPlaces : ExpandPlaces
   pub movedLeast : MovedLeast
+  pub movedReplies : MovedReplies
   pub leastTotal : LeastTotal
   pub leastTotalDecided : LeastTotalDecided
+  pub leftLends : LeftLends
+  pub leftSound : LeftSound

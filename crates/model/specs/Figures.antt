@@ -5,32 +5,16 @@ use mathlib.Core.List.{List, [], _∷_, map}
 use lib.ListN.{take, replicate}
 use Rattle.model.specs.Limits.{maxBlocks, maxIntervals}
 use Rattle.model.specs.Table.{Shape, sizes, Arrays, arrays}
-use Rattle.model.specs.Calls.{initialReply, initialArrays, expandReply, expandArrays, placeReply}
-use Rattle.model.specs.declared.reply.TableReply.{TableReply}
-
--- what a call that writes a table leaves: its reply and the arrays
-pub record State : Type 0 where
-  pub reply : TableReply
-  pub arrays : Arrays
+use Rattle.model.specs.Calls.{placeReply}
+use Rattle.model.specs.History.{State, started, played, handedOn}
 
 -- arrays of zeros to write to
 unfoldable pub blank : Arrays
 blank = arrays (replicate maxBlocks 0) (replicate maxIntervals 0) (replicate maxIntervals 0) (replicate maxIntervals 0)
 
--- a fresh map, and a growth of the map that a call left
-unfoldable pub started : Shape → State
-started s = record { reply = initialReply s blank; arrays = initialArrays s blank }
-
-unfoldable pub grow : State → Shape → State
-grow st s =
-    record {
-      reply = expandReply (st .reply .header) (st .arrays) s blank;
-      arrays = expandArrays (st .reply .header) (st .arrays) s blank;
-    }
-
-unfoldable pub grows : State → List Shape → State
-grows st [] = st
-grows st (s ∷ rest) = grows (grow st s) rest
+-- what growths of the given sizes leave, each of the map that the one before it left
+unfoldable pub grown : State → List Shape → State
+grown st ss = played st (handedOn st (map (λ s. (s, blank)) ss)) .left
 
 -- a question and its answer: the refusal, moved count and number of intervals of the last reply; an array of the table; the
 -- bin and position of a bucket
@@ -44,13 +28,11 @@ pub data Answer : Type 0 where
 -- the same question, answered by the definitions
 unfoldable pub answered : State → Answer → Answer
 answered st (reply r m k) = reply (st .reply .refusal) (st .reply .moved) (st .reply .header .«interval_count»)
-answered st (ends xs) = ends (take (st .reply .header .«interval_count») (st .arrays .ends))
-answered st (blocks xs) = blocks (take (st .reply .header .«interval_count») (st .arrays .blocks))
-answered st (adjustments xs) = adjustments (take (st .reply .header .«interval_count») (st .arrays .adjustments))
+answered st (ends xs) = ends (take (st .header .«interval_count») (st .arrays .ends))
+answered st (blocks xs) = blocks (take (st .header .«interval_count») (st .arrays .blocks))
+answered st (adjustments xs) = adjustments (take (st .header .«interval_count») (st .arrays .adjustments))
 answered st (place x y p) =
-    place x
-    (placeReply (st .reply .header) (st .arrays) x .bin)
-    (placeReply (st .reply .header) (st .arrays) x .position)
+    place x (placeReply (st .header) (st .arrays) x .bin) (placeReply (st .header) (st .arrays) x .position)
 
 -- a figure: fresh sizes, the growths after it, and document 01's answers
 pub record Figure : Type 0 where
@@ -59,7 +41,7 @@ pub record Figure : Type 0 where
   pub stated : List Answer
 
 unfoldable pub computed : Figure → List Answer
-computed f = map (answered (grows (started (f .fresh)) (f .growths))) (f .stated)
+computed f = map (answered (grown (started (f .fresh) blank) (f .growths))) (f .stated)
 
 abbrev pub figure : Shape → List Shape → List Answer → Figure
 figure s ss a = record { fresh = s; growths = ss; stated = a }

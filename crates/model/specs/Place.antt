@@ -39,6 +39,10 @@ held t j m = count (λ x. eqb (blockOf t x) j) m
 unfoldable pub others : Table → ℕ → ℕ → ℕ
 others t j m = count (λ x. not (eqb (blockOf t x) j)) m
 
+-- the size of bin y in a map f: how many of the first b buckets f puts into it
+unfoldable pub size : (ℕ → ℕ) → ℕ → ℕ → ℕ
+size f b y = count (λ x. eqb (f x) y) b
+
 -- the size of bin y (drawer count): the number of buckets in it
 unfoldable pub binSize : Table → ℕ → ℕ
-binSize t y = count (λ x. eqb (bin t x) y) (t .buckets)
+binSize t y = size (bin t) (t .buckets) y

@@ -1,17 +1,18 @@
 -- What is proved of lent tables and files: soundness, places, and keeping. Each claim is a type. Assumes nothing.
-use Prim.Native.Nat.{ℕ, _<_}
+use Prim.Native.Nat.{ℕ, _+_, _*_, _≤_, _<_}
 use mathlib.Core.Path.{_≡_}
 use mathlib.Core.Logic.{_↔_}
 use mathlib.Core.Bool.{false}
 use mathlib.Core.List.{List, [], _∷_}
-use lib.ListN.{length, getD}
-use Rattle.model.specs.Table.{Shape, Table, bins, shape, Arrays, table}
+use lib.ListN.{length, getD, take}
+use Rattle.model.specs.Table.{Shape, Table, bins, shape, Arrays, table, header, written}
 use Rattle.model.specs.Place.{bin, position, binSize}
 use Rattle.model.specs.Due.{due}
-use Rattle.model.specs.Refusal.{first, bucketPast, placePast, roomShort}
+use Rattle.model.specs.Refusal.{first, arraysShort, bucketPast, placePast, roomShort}
 use Rattle.model.specs.Search.{bucketAt}
 use Rattle.model.specs.Sound.{Sound}
-use Rattle.model.specs.Saved.{saved}
+use Rattle.model.specs.Initial.{initial}
+use Rattle.model.specs.Saved.{saved, loadedHeader, loadedArrays}
 use Rattle.model.specs.Calls.{
   tableTests,
   placeTests,
@@ -19,6 +20,8 @@ use Rattle.model.specs.Calls.{
   initialRefusal,
   initialReply,
   initialArrays,
+  saveReply,
+  saveBytes,
   loadRefusal,
   loadReply,
   loadArrays,
@@ -30,12 +33,34 @@ use Rattle.model.specs.declared.table.Header.{Header}
 abbrev pub SoundIff : Type 0
 SoundIff = (h : Header) (a : Arrays) → (first (tableTests h a) ≡ 0) ↔ Sound h a
 
+-- soundness is the table's: arrays that hold the table of sound ones, and are no shorter than its counts, are sound
+abbrev pub SameSound : Type 0
+SameSound = (h : Header) (a b : Arrays) → Sound h a → table h b ≡ table h a → arraysShort h b ≡ false → Sound h b
+
 -- the tables of accepted calls are sound
 abbrev pub InitialSound : Type 0
 InitialSound = (s : Shape) (out : Arrays) → initialRefusal s out ≡ 0 → Sound (initialReply s out .header) (initialArrays s out)
 
 abbrev pub LoadSound : Type 0
 LoadSound = (f : List ℕ) (out : Arrays) → loadRefusal f out ≡ 0 → Sound (loadReply f out .header) (loadArrays f out)
+
+-- a table written into arrays and read back is that table
+abbrev pub WrittenRead : Type 0
+WrittenRead = (t : Table) (out : Arrays) → table (header t) (written t out) ≡ t
+
+-- so what an accepted call replies and writes holds the table of its definition: the header is the table's, and the arrays give it
+abbrev pub Holds : Header → Arrays → Table → Type 0
+Holds h a t = (h ≡ header t) × (table h a ≡ t)
+
+abbrev pub InitialRead : Type 0
+InitialRead =
+    (s : Shape) (out : Arrays) → initialRefusal s out ≡ 0
+    → Holds (initialReply s out .header) (initialArrays s out) (initial s)
+
+abbrev pub LoadRead : Type 0
+LoadRead =
+    (f : List ℕ) (out : Arrays) → loadRefusal f out ≡ 0
+    → Holds (loadReply f out .header) (loadArrays f out) (table (loadedHeader f) (loadedArrays f))
 
 -- every bin of a sound table holds its due size, so the mapping is balanced
 abbrev pub SizeDue : Type 0
@@ -73,29 +98,52 @@ FindRefused =
     (h : Header) (a : Arrays) → Sound h a
     → (y p : ℕ) → first (findTests (table h a) y p) ≡ first ((7, placePast (table h a) y p) ∷ [])
 
--- a sound table, saved and loaded, is the same table
+-- there is room in a buffer for a saved map of the header's G and k
+abbrev pub Fits : Header → List ℕ → Type 0
+Fits h buffer = 12 + 4 * h .«block_count» + 8 * h .«interval_count» ≤ length buffer
+
+-- a sound table is saved into any buffer with room, and its length is exactly 12 + 4G + 8k
+abbrev pub SavedLength : Type 0
+SavedLength =
+    (h : Header) (a : Arrays) (buffer : List ℕ) → Sound h a → Fits h buffer
+    → (saveReply h a buffer .refusal ≡ 0)
+    × (saveReply h a buffer .length ≡ 12 + 4 * h .«block_count» + 8 * h .«interval_count»)
+    × (length (saved (table h a)) ≡ 12 + 4 * h .«block_count» + 8 * h .«interval_count»)
+
+-- the file that `save` leaves in a buffer: as many of its first bytes as the reply says
+abbrev pub savedFile : Header → Arrays → List ℕ → List ℕ
+savedFile h a buffer = take (saveReply h a buffer .length) (saveBytes h a buffer)
+
+-- a sound table, saved into any buffer with room and loaded into any arrays with room, is the same table
 abbrev pub SavedLoaded : Type 0
 SavedLoaded =
-    (h : Header) (a out : Arrays) → Sound h a → roomShort out ≡ false
-    → (loadRefusal (saved (table h a)) out ≡ 0)
-    × (loadReply (saved (table h a)) out .header ≡ h)
-    × (table h (loadArrays (saved (table h a)) out) ≡ table h a)
+    (h : Header) (a : Arrays) (buffer : List ℕ) (out : Arrays) → Sound h a → Fits h buffer → roomShort out ≡ false
+    → (loadRefusal (savedFile h a buffer) out ≡ 0)
+    × (loadReply (savedFile h a buffer) out .header ≡ h)
+    × (table h (loadArrays (savedFile h a buffer) out) ≡ table h a)
 
--- an accepted file, loaded and saved, is the same bytes
+-- an accepted file of bytes, loaded and saved into any buffer with room, is the same file
 abbrev pub LoadedSaved : Type 0
 LoadedSaved =
-    (f : List ℕ) (out : Arrays) → ((i : ℕ) → i < length f → getD f i 0 < 256) → loadRefusal f out ≡ 0
-    → saved (table (loadReply f out .header) (loadArrays f out)) ≡ f
+    (f : List ℕ) (out : Arrays) (buffer : List ℕ) → ((i : ℕ) → i < length f → getD f i 0 < 256) → loadRefusal f out ≡ 0
+    → Fits (loadReply f out .header) buffer
+    → (saveReply (loadReply f out .header) (loadArrays f out) buffer .refusal ≡ 0)
+    × (savedFile (loadReply f out .header) (loadArrays f out) buffer ≡ f)
 
 pub record TableClaims : Type 0 where
   pub soundIff : SoundIff
+  pub sameSound : SameSound
   pub initialSound : InitialSound
   pub loadSound : LoadSound
+  pub writtenRead : WrittenRead
+  pub initialRead : InitialRead
+  pub loadRead : LoadRead
   pub sizeDue : SizeDue
   pub tableBalanced : TableBalanced
   pub findPlaced : FindPlaced
   pub placeFound : PlaceFound
   pub placeRefused : PlaceRefused
   pub findRefused : FindRefused
+  pub savedLength : SavedLength
   pub savedLoaded : SavedLoaded
   pub loadedSaved : LoadedSaved

@@ -10,7 +10,7 @@ use Rattle.model.specs.Limits.{maxBlocks}
 use Rattle.model.specs.Table.{Shape, Arrays}
 use Rattle.model.specs.Due.{dueOfBlock}
 use Rattle.model.specs.Sound.{Sound}
-use Rattle.model.specs.Claims.{dueBelow}
+use Rattle.model.specs.Balance.{dueBelow}
 use Rattle.model.specs.declared.table.Header.{Header}
 use Rattle.model.proofs.Dues.{block-closed}
 use Rattle.model.proofs.Intervals.{before-mono}

@@ -16,7 +16,7 @@ use Rattle.model.specs.Expansion.{dueAfter, someFall, plan, planFor, expanded}
 use Rattle.model.specs.Relocations.{row, page}
 use Rattle.model.specs.Relocations
 use Rattle.model.specs.Calls.{growthTests}
-use Rattle.model.specs.Balance.{most, least}
+use Rattle.model.specs.Balance.{dueBelow, most, least}
 use Rattle.model.specs.declared.table.Header.{Header}
 use Rattle.model.specs.declared.plan.Plan.{Plan}
 use Rattle.model.proofs.Counts.{below-or}
@@ -39,7 +39,7 @@ pub rows-counted
     : (h : Header) (a : Arrays) (s : Shape) → Sound h a → first (growthTests (table h a) s) ≡ 0 → (n m r : ℕ)
     → n ≡ bins (table h a) → m ≡ n * (s .buckets / s .bins) + min n (s .buckets % s .bins) → r ≡ h .buckets - m
     → r ≡ length (Relocations.rows (table h a) (expanded (table h a) s))
-unfolding least most shape table
+unfolding least most dueBelow shape table
 rows-counted h a s sound ok n m r e f g = rw (g, f, e) (sym (rows-least h a s sound ok))
 
 -- A PLAN AS A CUT

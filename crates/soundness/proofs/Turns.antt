@@ -9,7 +9,7 @@ use Rattle.model.specs.Basics.{before}
 use Rattle.model.specs.Limits.{maxBlocks}
 use Rattle.model.specs.Table.{arrays}
 use Rattle.model.specs.Due.{dueOfBlock}
-use Rattle.model.specs.Claims.{dueBelow}
+use Rattle.model.specs.Balance.{dueBelow}
 use Rattle.model.specs.declared.table.Header.{Header}
 use Rattle.model.proofs.Dues.{block-closed}
 use Rattle.model.proofs.Holdings.{Sums, sums-below, sums-more, lentShape, due-fits}

@@ -1,9 +1,9 @@
 -- `model::table_claims` meets its contract: a proof of each claim. Assumes nothing.
-use Rattle.model.proofs.Soundness.{sound-iff, initial-sound}
+use Rattle.model.proofs.Soundness.{sound-iff, same-sound, initial-sound, written-read, initial-read}
 use Rattle.model.proofs.Places.{size-due, table-balanced}
 use Rattle.model.proofs.Finds.{find-placed, place-found, find-refused}
 use Rattle.model.proofs.Searches.{place-refused}
-use Rattle.model.proofs.Files.{load-sound, saved-loaded, loaded-saved}
+use Rattle.model.proofs.Files.{load-sound, load-read, save-length, saved-loaded, loaded-saved}
 use Rattle.model.proofs.table_claims.Statement.{statement}
 use Rattle.model.proofs.table_claims.Tie as tie
 
@@ -11,14 +11,19 @@ returns : tie.Need-returns
 returns c =
     record {
       soundIff = sound-iff;
+      sameSound = same-sound;
       initialSound = initial-sound;
       loadSound = load-sound;
+      writtenRead = written-read;
+      initialRead = initial-read;
+      loadRead = load-read;
       sizeDue = size-due;
       tableBalanced = table-balanced;
       findPlaced = find-placed;
       placeFound = place-found;
       placeRefused = place-refused;
       findRefused = find-refused;
+      savedLength = save-length;
       savedLoaded = saved-loaded;
       loadedSaved = loaded-saved;
     }

@@ -7,7 +7,7 @@ use mathlib.Core.Path.{_≡_, sym}
 use native.Mathlib.Omega.{arith}
 use Rattle.model.specs.Basics.{before}
 use Rattle.model.specs.Table.{sizes}
-use Rattle.model.specs.Claims.{dueBelow}
+use Rattle.model.specs.Balance.{dueBelow}
 use Rattle.model.proofs.Holdings.{due-none}
 use Rattle.model.proofs.Shares.{Dues, dues-none, dues-more, dues-whole}
 use Rattle.plan.proofs.block_dues.Statement.{statement}

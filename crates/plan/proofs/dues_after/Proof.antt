@@ -3,7 +3,7 @@ use Prim.Native.Nat.{_-_}
 use mathlib.Core.Path.{sym, _∙_, ap}
 use native.Mathlib.Omega.{arith}
 use Rattle.model.specs.Table.{Shape, Table, table, sizes}
-use Rattle.model.specs.Claims.{dueBelow}
+use Rattle.model.specs.Balance.{dueBelow}
 use Rattle.model.proofs.Wells.{Well, tops-length, bins-last, sound-well}
 use Rattle.model.proofs.Growths.{Accepted, accepted}
 use Rattle.model.proofs.Shares.{due-within, new-room, after-more, after-same}

@@ -1,6 +1,6 @@
 -- `relocations::relocation_count` meets its contract: max(0, B - T) rows. Assumes nothing.
 use native.Mathlib.Omega.{arith}
-use Rattle.model.specs.Claims.{dueBelow}
+use Rattle.model.specs.Balance.{dueBelow}
 use Rattle.model.specs.Table.{sizes}
 use Rattle.model.proofs.Growths.{Accepted, accepted}
 use Rattle.model.proofs.Shares.{due-within}

@@ -7,7 +7,7 @@ use lib.ListN.{getD}
 use borrow.Author.Count.{below-none, below-more}
 use Rattle.model.specs.Basics.{before}
 use Rattle.model.specs.Due.{dueOfBlock}
-use Rattle.model.specs.Claims.{dueBelow}
+use Rattle.model.specs.Balance.{dueBelow}
 use Rattle.model.proofs.Rules.{before-next}
 use Rattle.model.proofs.Holdings.{lentShape, due-none, held-same, holdings-right, holdings-fail}
 use Rattle.soundness.proofs.Turns.{bins-some, due-turn}
