@@ -50,14 +50,24 @@ module _ (t : Table) (s : Shape) (out : Arrays) (r : ℕ) (e : r ≡ first (grow
       let eight : growRefusal t s ≡ 8 = next z ∙ rw w in
       record { reply = rw (next z, w); least = λ q. absurd (omega arith); lent = rw (next z, w) }
 
-  -- accepted: b buckets, g blocks, k intervals, m moved
+  -- accepted: a reply of the new table's numbers
   pub grow-accepted
-      : (g k m : ℕ) (left : Arrays) → r ≡ 0 → k ≤ maxIntervals → g ≡ length (newTops t s)
-      → k ≡ length (expanded t s .intervals) → m ≡ moved t (expanded t s) → m ≡ least (shape t) s
-      → left ≡ written (expanded t s) out
-      → GrowReply t s out left
-      (record { refusal = 0; moved = m; header = record { buckets = s .buckets; «block_count» = g; «interval_count» = k } })
+      : (left : Arrays) (z : TableReply) → r ≡ 0 → length (expanded t s .intervals) ≤ maxIntervals → z .refusal ≡ 0
+      → z .header .buckets ≡ s .buckets → z .header .«block_count» ≡ length (newTops t s)
+      → z .header .«interval_count» ≡ length (expanded t s .intervals)
+      → z .moved ≡ moved t (expanded t s) → z .moved ≡ least (shape t) s
+      → left ≡ written (expanded t s) out → GrowReply t s out left z
   unfolding tableReply arraysAfter intervalsFull first answer if_then_else_ header expanded
-  grow-accepted g k m left z l a b c f d =
-      let w = le-ltb maxIntervals (length (expanded t s .intervals)) (rw (← b) l) in
-      record { reply = rw (next z, w, a, b, c); least = λ q. f; lent = rw (next z, w, d) }
+  grow-accepted left z ok few accepted buckets blocks intervals count formula stored =
+      let w = le-ltb maxIntervals (length (expanded t s .intervals)) few in
+      record {
+        reply =
+            rw (next ok, w)
+            (λ i. record {
+              refusal = accepted i;
+              moved = count i;
+              header = record { buckets = buckets i; «block_count» = blocks i; «interval_count» = intervals i };
+            });
+        least = λ q. formula;
+        lent = rw (next ok, w) stored;
+      }
