@@ -13,7 +13,26 @@ use Rattle.model.specs.Table.{Shape, Interval, interval, Table, Arrays, 
 use Rattle.model.specs.Place.{blockOf}
 use Rattle.model.specs.Refusal.{first}
 use Rattle.model.specs.Sound.{Sound}
-use Rattle.model.specs.Expansion.{newTops, has, dueAfter, someFall, lastBlock, lengthened, gain, lengthTo, pieces, filled, parts, planFor, parted, movedAfter, extended, drained, expanded, moved}
+use Rattle.model.specs.Expansion.{
+  newTops,
+  has,
+  dueAfter,
+  someFall,
+  lastBlock,
+  lengthened,
+  gain,
+  lengthTo,
+  pieces,
+  filled,
+  parts,
+  planFor,
+  parted,
+  movedAfter,
+  extended,
+  drained,
+  expanded,
+  moved,
+}
 use Rattle.model.specs.Calls.{growthTests}
 use Rattle.model.specs.declared.plan.Plan.{Plan}
 use Rattle.model.specs.declared.table.Header.{Header}

@@ -54,7 +54,9 @@ enum-told : tie.Need-enum-told
 enum-told c = search needs
 
 write-interval-requires : tie.Need-write-interval-requires
-write-interval-requires c κs = rw (stays-alone (c .before .before .before)) at (c .before .before .before .before .before .before .before .before .before .pre .1)
+write-interval-requires c κs =
+    let arm = c .before .before .before in
+    rw (stays-alone arm) at (arm .before .before .before .before .before .before .pre .1)
 
 add-result : tie.Need-add-result
 add-result c = search needs
@@ -69,13 +71,17 @@ same-length-3 : tie.Need-same-length-3
 same-length-3 c = search needs
 
 returns : tie.Need-returns
-returns c = rw (stays-alone (c .before .before .before .before .before .before .before .before .before .before)) (omega arith, c .before .before .before .before .before .before .write-interval .ensures)
+returns c =
+    let stored = c .before .before .before .before .before .before in
+    rw (stays-alone (stored .before .before .before .before)) (omega arith, stored .write-interval .ensures)
 
 sub-write-two : tie.Need-sub-write-two
 sub-write-two c = search needs
 
 write-two-requires : tie.Need-write-two-requires
-write-two-requires c κs = rw (stays-before (c .before .before .before .before)) at (c .before .before .before .before .before .before .before .before .before .before .pre .1)
+write-two-requires c κs =
+    let arm = c .before .before .before .before in
+    rw (stays-before arm) at (arm .before .before .before .before .before .before .pre .1)
 
 add-result-2 : tie.Need-add-result-2
 add-result-2 c = search needs
@@ -84,7 +90,9 @@ enum-known-action : tie.Need-enum-known-action
 enum-known-action c = search needs
 
 write-interval-requires-2 : tie.Need-write-interval-requires-2
-write-interval-requires-2 c κs = rw (moves (c .before .before .before .before)) at (c .before .before .before .before .before .before .before .before .before .pre .1)
+write-interval-requires-2 c κs =
+    let arm = c .before .before .before .before in
+    rw (moves arm) at (arm .before .before .before .before .before .pre .1)
 
 add-result-3 : tie.Need-add-result-3
 add-result-3 c = search needs
@@ -93,7 +101,9 @@ enum-known-action-2 : tie.Need-enum-known-action-2
 enum-known-action-2 c = search needs
 
 write-two-requires-2 : tie.Need-write-two-requires-2
-write-two-requires-2 c κs = rw (splits (c .before .before .before .before)) at (c .before .before .before .before .before .before .before .before .before .pre .1)
+write-two-requires-2 c κs =
+    let arm = c .before .before .before .before in
+    rw (splits arm) at (arm .before .before .before .before .before .pre .1)
 
 add-result-4 : tie.Need-add-result-4
 add-result-4 c = search needs
@@ -108,7 +118,9 @@ same-length-6 : tie.Need-same-length-6
 same-length-6 c = search needs
 
 returns-2 : tie.Need-returns-2
-returns-2 c = rw (stays-before (c .before .before .before .before .before .before .before .before .before .before .before)) (omega arith, c .before .before .before .before .before .before .write-two .ensures)
+returns-2 c =
+    let stored = c .before .before .before .before .before .before in
+    rw (stays-before (stored .before .before .before .before .before)) (omega arith, stored .write-two .ensures)
 
 same-length-7 : tie.Need-same-length-7
 same-length-7 c = search needs
@@ -120,7 +132,9 @@ same-length-9 : tie.Need-same-length-9
 same-length-9 c = search needs
 
 returns-3 : tie.Need-returns-3
-returns-3 c = rw (moves (c .before .before .before .before .before .before .before .before .before .before .before)) (omega arith, c .before .before .before .before .before .before .write-interval2 .ensures)
+returns-3 c =
+    let stored = c .before .before .before .before .before .before in
+    rw (moves (stored .before .before .before .before .before)) (omega arith, stored .write-interval2 .ensures)
 
 same-length-10 : tie.Need-same-length-10
 same-length-10 c = search needs
@@ -132,7 +146,9 @@ same-length-12 : tie.Need-same-length-12
 same-length-12 c = search needs
 
 returns-4 : tie.Need-returns-4
-returns-4 c = rw (splits (c .before .before .before .before .before .before .before .before .before .before .before)) (omega arith, c .before .before .before .before .before .before .write-two2 .ensures)
+returns-4 c =
+    let stored = c .before .before .before .before .before .before in
+    rw (splits (stored .before .before .before .before .before)) (omega arith, stored .write-two2 .ensures)
 
 pub write-parts-spec : {M : Type 1} → statement M
 write-parts-spec =

@@ -22,7 +22,11 @@ same-length-3 : tie.Need-same-length-3
 same-length-3 c = search needs
 
 returns : tie.Need-returns
-returns c = (c .before .before .before .before .before .before .before .before .before .before .copy .ensures, c .before .before .before .before .before .before .copy2 .ensures, c .before .before .copy3 .ensures)
+returns c = (
+  c .before .before .before .before .before .before .before .before .before .before .copy .ensures,
+  c .before .before .before .before .before .before .copy2 .ensures,
+  c .before .before .copy3 .ensures,
+)
 
 pub copy-intervals-spec : {M : Type 1} → statement M
 copy-intervals-spec =

@@ -71,17 +71,21 @@ same-length-4 c = search needs
 
 returns-3 : tie.Need-returns-3
 returns-3 c =
-    let asked = c .before .before .before .before .before .before .before .before .before .before .before .before .before .before .before .before .before .before .before .before .before .before .before .before .before .before .growth-refusal .ensures in
-    let counted = c .before .before .before .before .before .before .before .before .before .before .before .before .before .before .before .before .before .before .measure .ensures in
-    grow-accepted _ _ _ _ asked _ _ (c .before .before .before .before .before .before .before .before .before .before .before .before .before .before .before .before .before .before .before .before .before .before .before .before .before .if1 .left)
-    (omega (arith, c .before .before .before .before .before .before .before .before .before .before .before .before .before .before .before .before .if2 .left, counted .intervals))
+    let stored = c .before .before .before .before .before .before .before .before in
+    let blocks = stored .before .before .before .before .before .before .before in
+    let few = blocks .before in
+    let counting = few .before .before in
+    let asked = counting .before .before .before .before .before .before .before in
+    let counted = counting .measure .ensures in
+    grow-accepted _ _ _ _ (asked .before .growth-refusal .ensures) _ _ (asked .if1 .left)
+    (omega (arith, few .if2 .left, counted .intervals))
     (omega arith)
     (omega arith)
-    (omega (arith, c .before .before .before .before .before .before .before .before .before .before .before .before .before .before .before .blocks-after .ensures))
+    (omega (arith, blocks .blocks-after .ensures))
     (omega (arith, counted .intervals))
     (omega (arith, counted .moved))
     (omega (arith, counted .least))
-    (c .before .before .before .before .before .before .before .before .write-expanded .ensures)
+    (stored .write-expanded .ensures)
 
 pub grown-spec : {M : Type 1} → statement M
 grown-spec =
