@@ -1,9 +1,8 @@
 -- What the plans for the old intervals make of them, one interval at a time. Assumes nothing.
 use Prim.Native.Nat.{ℕ, _+_, _-_, _≤_, _<_}
-use mathlib.Core.Path.{_≡_, sym, _∙_, ap}
+use mathlib.Core.Path.{_≡_, refl, sym, _∙_, ap}
 use mathlib.Core.Logic.{⊎-elim}
 use mathlib.Core.List.{List, [], _∷_, _++_, append-nil}
-use native.Mathlib.Nat.{add-zero}
 use native.Mathlib.Omega.{arith}
 use lib.Dec.{ltb}
 use lib.ListN.{length, getD}
@@ -11,41 +10,42 @@ use borrow.Author.Tests.{eq-eqb, ne-eqb, lt-ltb, le-ltb}
 use Rattle.model.specs.Basics.{if_then_else_}
 use Rattle.model.specs.Table.{Shape, Interval, interval, Table, Arrays, table}
 use Rattle.model.specs.Sound.{Sound}
-use Rattle.model.specs.Expansion.{planFor, drained}
+use Rattle.model.specs.Expansion.{lastBlock, lengthened, parts, extended, planFor, drained}
 use Rattle.model.specs.declared.plan.Action.the-variants.{Stay, Move, Split}
 use Rattle.model.specs.declared.plan.Plan.{Plan}
 use Rattle.model.specs.declared.table.Header.{Header}
 use Rattle.model.proofs.Counts.{below-or}
 use Rattle.model.proofs.Tables.{lentInterval}
 use Rattle.model.proofs.Wells.{tops-length}
-use Rattle.model.proofs.Walks.{fresh, walkedParts, walked}
-use Rattle.model.proofs.Steps.{ahead, end-within, walked-next, walked-last, walked-drained}
+use Rattle.model.proofs.Walks.{extended-none, walked}
+use Rattle.model.proofs.Steps.{ahead, end-within, end-last, walked-next, walked-last, walked-drained}
 use Rattle.count.specs.Made.{made, leftBehind}
 
 -- a list is `is` and then `behind`
 pub record Front (whole is behind : List Interval) : Type 0 where
   pub joined : whole ≡ is ++ behind
 
--- by the action
+-- by the action: of an interval of an old block
 module _ (p : Plan) (i : Interval) (g m : ℕ) where
-  pub made-stay : p .action ≡ Stay → m ≡ 0 → made p i g m ≡ i ∷ []
-  unfolding made walkedParts fresh if_then_else_
-  made-stay e z = rw (e, eq-eqb m 0 z)
+  pub made-stay : p .action ≡ Stay → i .block < g → m ≡ 0 → made p i g m ≡ i ∷ []
+  unfolding made parts extended lastBlock if_then_else_
+  made-stay e l z = rw (e, ne-eqb (i .block) g (λ q. omega arith), eq-eqb m 0 z)
 
   pub made-fresh
-      : p .action ≡ Stay → (m ≡ 0 → ⊥) → made p i g m ≡ i ∷ interval (i .end + m) g (i .end - p .moved) ∷ []
-  unfolding made walkedParts fresh if_then_else_
-  made-fresh e z = rw (e, ne-eqb m 0 z)
+      : p .action ≡ Stay → i .block < g → (m ≡ 0 → ⊥)
+      → made p i g m ≡ i ∷ interval (i .end + m) g (i .end - p .moved) ∷ []
+  unfolding made parts extended lastBlock if_then_else_
+  made-fresh e l z = rw (e, ne-eqb (i .block) g (λ q. omega arith), ne-eqb m 0 z)
 
   pub made-move : (c : ℕ) → p .action ≡ Move c → made p i g m ≡ interval (i .end + m) g c ∷ []
-  unfolding made walkedParts
-  made-move c e = rw e
+  unfolding made parts extended lastBlock lengthened if_then_else_
+  made-move c e = rw (e, eq-eqb g g refl)
 
   pub made-split
       : (b c : ℕ) → p .action ≡ Split b c
       → made p i g m ≡ interval b (i .block) (i .adjustment) ∷ interval (i .end + m) g c ∷ []
-  unfolding made walkedParts
-  made-split b c e = rw e
+  unfolding made parts extended lastBlock lengthened if_then_else_
+  made-split b c e = rw (e, eq-eqb g g refl)
 
 module _ (h : Header) (a : Arrays) (s : Shape) where
   abbrev t : Table
@@ -53,14 +53,13 @@ module _ (h : Header) (a : Arrays) (s : Shape) where
 
   -- what the walk still makes from interval i on; past the last one nothing
   unfoldable pub toMake : ℕ → ℕ → ℕ → List Interval
-  toMake i start w = if ltb i (h .«interval_count») then walked t s (s .buckets - h .buckets) start (ahead h a i) w else []
+  toMake i start w = if ltb i (h .«interval_count») then walked t s start (ahead h a i) w else []
 
   pub make-none : (i start w : ℕ) → h .«interval_count» ≤ i → toMake i start w ≡ []
   unfolding toMake if_then_else_
   make-none i start w l = rw (le-ltb i (h .«interval_count») l)
 
-  make-some
-      : (i start w : ℕ) → i < h .«interval_count» → toMake i start w ≡ walked t s (s .buckets - h .buckets) start (ahead h a i) w
+  make-some : (i start w : ℕ) → i < h .«interval_count» → toMake i start w ≡ walked t s start (ahead h a i) w
   unfolding toMake if_then_else_
   make-some i start w l = rw (lt-ltb i (h .«interval_count») l)
 
@@ -76,7 +75,7 @@ module _ (h : Header) (a : Arrays) (s : Shape) where
   module _ (sound : Sound h a) where
     -- all that the growth makes
     pub make-all : drained t s ≡ toMake 0 0 0
-    make-all = walked-drained h a s sound ∙ sym (make-some 0 0 0 (sound .someIntervals))
+    make-all = walked-drained h a s ∙ sym (make-some 0 0 0 (sound .someIntervals))
 
     -- no interval ends past B′ with the new buckets behind it
     pub behind-fits
@@ -95,31 +94,34 @@ module _ (h : Header) (a : Arrays) (s : Shape) where
         (toMake i start w)
         (made p (lentInterval a i) (h .«block_count») (leftBehind h (s .buckets) i))
         (toMake (i + 1) (getD (a .ends) i 0) (p .moved))
-    unfolding made fresh if_then_else_
+    unfolding made
     made-first i start w l p e =
-        let g = length (t .tops) in
-        let m = s .buckets - h .buckets in
         let end = getD (a .ends) i 0 in
+        let own = parts (p .action) (lentInterval a i) (length (t .tops)) [] in
         let count = tops-length h a sound in
         record {
           joined =
               make-some i start w l
               ∙ ⊎-elim
               (λ n.
-              walked-next h a s i start w l p e m n
-              ∙ ap (λ k. walkedParts (p .action) (lentInterval a i) g k [] [] ++ walked t s m end (ahead h a (i + 1)) (p .moved))
-              (sym (add-zero end))
-              ∙ ap (λ k. made p (lentInterval a i) k 0 ++ walked t s m end (ahead h a (i + 1)) (p .moved)) count
-              ∙ ap (λ k. made p (lentInterval a i) (h .«block_count») k ++ walked t s m end (ahead h a (i + 1)) (p .moved))
-              (sym (behind-none (s .buckets) i n))
-              ∙ ap (λ is. made p (lentInterval a i) (h .«block_count») (leftBehind h (s .buckets) i) ++ is)
+              walked-next h a s i start w l p e n
+              ∙ ap (λ is. is ++ walked t s end (ahead h a (i + 1)) (p .moved))
+              (sym (extended-none (length (t .tops)) end (p .moved) own)
+              ∙ ap (λ m. made p (lentInterval a i) (length (t .tops)) m) (sym (behind-none (s .buckets) i n)))
+              ∙ ap (λ is. made p (lentInterval a i) (length (t .tops)) (leftBehind h (s .buckets) i) ++ is)
               (sym (make-some (i + 1) end (p .moved) n)))
               (λ n.
-              walked-last h a s i start w l p e m (omega arith)
-              ∙ ap (λ k. made p (lentInterval a i) k m) count
-              ∙ ap (made p (lentInterval a i) (h .«block_count»)) (sym (behind-all (s .buckets) i n))
+              walked-last h a s i start w l p e (omega arith)
+              ∙ ap (λ b. extended (length (t .tops)) b (s .buckets - h .buckets) (p .moved) own)
+              (sym (end-last h a sound i (omega arith)))
+              ∙ ap (made p (lentInterval a i) (length (t .tops))) (sym (behind-all (s .buckets) i n))
               ∙ sym (append-nil _)
-              ∙ ap (λ is. made p (lentInterval a i) (h .«block_count») (leftBehind h (s .buckets) i) ++ is)
+              ∙ ap (λ is. made p (lentInterval a i) (length (t .tops)) (leftBehind h (s .buckets) i) ++ is)
               (sym (make-none (i + 1) end (p .moved) n)))
-              (below-or (i + 1) (h .«interval_count»));
+              (below-or (i + 1) (h .«interval_count»))
+              ∙ ap
+              (λ g.
+              made p (lentInterval a i) g (leftBehind h (s .buckets) i)
+              ++ toMake (i + 1) end (p .moved))
+              count;
         }

@@ -11,11 +11,11 @@ ghost use lib.ListN.{length};
 ghost use Rattle.model.specs.Lent.{LentSound, arraysNow, tableGiven, tableNow};
 ghost use Rattle.model.specs.Table.{Interval, sizes};
 ghost use Rattle.model.specs.Refusal.{first};
-ghost use Rattle.model.specs.Expansion.{newTops, pieces as piecesOf, drained, movedAfter, expanded, moved as movedOf};
+ghost use Rattle.model.specs.Expansion.{newTops, pieces as piecesOf, drained, movedAfter};
 ghost use Rattle.model.specs.Calls.{growthTests};
 ghost use Rattle.plan.specs.Shares.{DuesBefore, DuesAfter};
 ghost use Rattle.count.specs.Given.{Drains, Fills};
-ghost use Rattle.count.specs.Made.{made, leftBehind, pieceOf};
+ghost use Rattle.count.specs.Made.{made, leftBehind, pieceOf, Counted};
 
 // The intervals of a growth's table, and the buckets that the growth moves.
 pub struct Growth {
@@ -25,7 +25,7 @@ pub struct Growth {
 
 // How many intervals the plan for an old one makes of it: with `left` new buckets, one that stays has one more behind it.
 fn part_count(plan: Plan, left: u32) -> u32
-    ensures { λ r. ⌜ (r ≤ 2) × ((i : Interval) (g : ℕ) → r ≡ length (made plan i g left)) ⌝ }
+    ensures { λ r. ⌜ (r ≤ 2) × ((i : Interval) (g : ℕ) → i .block < g → r ≡ length (made plan i g left)) ⌝ }
 {
     let action = plan.action;
     match action {
@@ -212,23 +212,12 @@ pub fn measure(
     requires { ⌜ first (growthTests (tableNow h tops ends blocks adjustments) (sizes buckets bins)) ≡ 0 ⌝ }
     requires { ⌜ DuesBefore (tableNow h tops ends blocks adjustments) (now olds) ⌝ }
     requires { ⌜ DuesAfter (tableNow h tops ends blocks adjustments) (sizes buckets bins) (now dues) ⌝ }
-    ensures intervals { λ r.
+    ensures { λ r.
         ⌜
-        r .intervals
-        ≡ length
-        (expanded
+        Counted
         (tableGiven h tops ends blocks adjustments)
         (sizes buckets bins)
-        .intervals)
-        ⌝ }
-    ensures moved { λ r.
-        ⌜
-        r .moved
-        ≡ movedOf
-        (tableGiven h tops ends blocks adjustments)
-        (expanded
-        (tableGiven h tops ends blocks adjustments)
-        (sizes buckets bins))
+        r
         ⌝ }
 {
     if some_fall(

@@ -86,7 +86,7 @@ fn write_parts(
     blocks: &mut [u32],
     adjustments: &mut [u32],
 ) -> usize
-    requires { ⌜ (plan .moved ≤ end) × (end + left < 2 ^ 32) ⌝ }
+    requires { ⌜ (block < g) × (plan .moved ≤ end) × (end + left < 2 ^ 32) ⌝ }
     requires { ⌜ Room (o + length (made plan (interval end block adjustment) g left)) (now ends) (now blocks) (now adjustments) ⌝ }
     ensures place { λ r. ⌜ r ≡ o + length (made plan (interval end block adjustment) g left) ⌝ }
     ensures stored { λ _.

@@ -1,16 +1,17 @@
 -- A growth by which no old block is due less: its intervals as they are written. Assumes nothing.
 use Prim.Native.Nat.{ℕ, _+_, _-_, _≤_, _<_}
 use mathlib.Core.Path.{_≡_, refl, sym, _∙_, ap}
-use mathlib.Core.List.{List, [], _∷_, _++_, append-assoc}
+use mathlib.Core.List.{List, [], _∷_, _++_, map, append-assoc}
 use native.Mathlib.Omega.{arith}
-use lib.ListN.{length, getD, length-append}
+use lib.ListN.{length, getD, take, length-append}
+use lib.Seq.{sets}
 use Rattle.model.specs.Basics.{from}
 use Rattle.model.specs.Limits.{maxBlocks}
 use Rattle.model.specs.Table.{Shape, Interval, interval, Arrays, table}
-use Rattle.model.specs.Expansion.{newTops, lengthened, gain, pieces, filled}
+use Rattle.model.specs.Expansion.{newTops, lengthened, gain, lengthTo, pieces, filled}
 use Rattle.model.specs.declared.table.Header.{Header}
-use Rattle.model.proofs.Tables.{lentInterval, length-from}
-use Rattle.model.proofs.Filled.{lastOf, lengthTo}
+use Rattle.model.proofs.Tables.{length-from, from-ext, from-getD, map-from, lentInterval}
+use Rattle.model.proofs.Filled.{lastOf}
 use Rattle.model.proofs.Steps.{last-lent, lengthened-lent, end-last, filled-within}
 use Rattle.count.specs.Given.{Fills}
 use Rattle.drain.specs.Stored.{Stored}
@@ -83,6 +84,30 @@ module _ (h : Header) (a : Arrays) (s : Shape) (olds dues : List ℕ) (f : Fills
       filled-within (table h a) s (fills-well h a s olds dues f) (fills-asked h a s olds dues f) (fills-up h a s olds dues f)
       (old ++ done) i behind
       (ap (λ is. old ++ is) (sym e) ∙ sym (append-assoc old done (i ∷ behind)))
+
+  -- the old intervals but the last, copied array by array
+  column
+      : (g : Interval → ℕ) (xs : List ℕ) → ((i : ℕ) → g (lentInterval a i) ≡ getD xs i 0) → h .«interval_count» ≤ length xs
+      → take last xs ≡ map g (from (lentInterval a) 0 last)
+  column g xs e long =
+      sym
+      (map-from g (lentInterval a) 0 last
+      ∙ from-ext (λ i. g (lentInterval a i)) (λ i. getD xs i 0) 0 last (λ i l m. e i)
+      ∙ from-getD xs 0 last (omega arith))
+
+  pub old-stored
+      : {es bs cs es′ bs′ cs′ : List ℕ}
+      → (es′ ≡ sets es 0 (take last (a .ends)))
+      × (bs′ ≡ sets bs 0 (take last (a .blocks)))
+      × (cs′ ≡ sets cs 0 (take last (a .adjustments)))
+      → Stored 0 (from (lentInterval a) 0 last) es bs cs es′ bs′ cs′
+  old-stored {es} {bs} {cs} copied =
+      record {
+        ends = copied .0 ∙ ap (sets es 0) (column (λ i. i .end) (a .ends) (λ i. refl) (f .sound .endsLong));
+        blocks = copied .1 ∙ ap (sets bs 0) (column (λ i. i .block) (a .blocks) (λ i. refl) (f .sound .blocksLong));
+        adjustments =
+            copied .2 ∙ ap (sets cs 0) (column (λ i. i .adjustment) (a .adjustments) (λ i. refl) (f .sound .adjustmentsLong));
+      }
 
   -- so what is stored one after the other are the filled intervals
   pub filled-stored

@@ -7,28 +7,24 @@ use plan::blocks_after;
 use plan::some_fall;
 use table::bin_count;
 ghost use mathlib.Core.Bool.{false};
-ghost use mathlib.Core.List.{[]};
 ghost use mathlib.Core.Path.{_≡_};
 ghost use Prim.Native.Nat.{_+_, _≤_, _<_};
-ghost use lib.ListN.{length, take};
-ghost use lib.Seq.{sets};
+ghost use lib.ListN.{length};
 ghost use Rattle.model.specs.Lent.{LentSound, given, left, arraysNow, tableGiven, tableNow};
-ghost use Rattle.model.specs.Basics.{from};
 ghost use Rattle.model.specs.Limits.{maxBlocks, maxIntervals};
-ghost use Rattle.model.specs.Table.{arrays, over, written, sizes};
+ghost use Rattle.model.specs.Table.{over, written, sizes};
 ghost use Rattle.model.specs.Refusal.{first, roomShort};
-ghost use Rattle.model.specs.Expansion.{newTops, pieces as piecesOf, filled, expanded};
+ghost use Rattle.model.specs.Expansion.{newTops, lengthTo, pieces as piecesOf, filled, expanded};
 ghost use Rattle.model.specs.Calls.{growthTests};
-ghost use Rattle.model.proofs.Tables.{lentInterval};
-ghost use Rattle.model.proofs.Filled.{lengthTo};
 ghost use Rattle.plan.specs.Shares.{DuesBefore, DuesAfter};
 ghost use Rattle.count.specs.Given.{Fills};
 ghost use Rattle.drain.specs.Stored.{Room, Stored};
+ghost use Rattle.expansion.specs.Copied.{Copied};
 
 // Copies the first `count` entries of an array over those of another.
 fn copy(from: &[u32], count: usize, to: &mut [u32])
     requires { ⌜ (count ≤ length (now from)) × (count ≤ length (now to)) ⌝ }
-    ensures { λ _. ⌜ now (to .exit) ≡ sets (now (to .entry)) 0 (take count (now (from .entry))) ⌝ }
+    ensures { λ _. ⌜ Copied count from to ⌝ }
 {
     let mut i: usize = 0;
     while i < count {
@@ -124,11 +120,7 @@ fn copy_intervals(
     requires { ⌜ Room count (now ends) (now blocks) (now adjustments) ⌝ }
     requires { ⌜ Room count (now «new_ends») (now «new_blocks») (now «new_adjustments») ⌝ }
     ensures { λ _.
-        ⌜
-        Stored 0 (from (lentInterval (arrays [] (now (ends .entry)) (now (blocks .entry)) (now (adjustments .entry)))) 0 count)
-        (now («new_ends» .entry)) (now («new_blocks» .entry)) (now («new_adjustments» .entry))
-        (now («new_ends» .exit)) (now («new_blocks» .exit)) (now («new_adjustments» .exit))
-        ⌝ }
+        ⌜ Copied count ends «new_ends» × Copied count blocks «new_blocks» × Copied count adjustments «new_adjustments» ⌝ }
 {
     copy(ends, count, new_ends);
     copy(blocks, count, new_blocks);

@@ -1,14 +1,16 @@
 -- Laws of a growth's reply. Assumes nothing.
 use Prim.Native.Nat.{ℕ, _≤_, _<_}
-use mathlib.Core.Path.{_≡_, sym, _∙_}
+use mathlib.Core.Path.{_≡_, sym, _∙_, ap}
 use mathlib.Core.List.{[], _∷_}
+use native.Mathlib.Omega.{arith}
 use lib.ListN.{length}
 use borrow.Author.Tests.{lt-ltb, le-ltb}
 use Rattle.model.specs.Basics.{if_then_else_}
 use Rattle.model.specs.Limits.{maxIntervals}
-use Rattle.model.specs.Table.{Shape, Table, Arrays, header, written}
+use Rattle.model.specs.Table.{Shape, Table, shape, Arrays, header, written}
 use Rattle.model.specs.Refusal.{first}
 use Rattle.model.specs.Expansion.{newTops, expanded, moved}
+use Rattle.model.specs.Balance.{least}
 use Rattle.model.specs.Calls.{answer, noHeader, growthTests, intervalsFull, tableReply, arraysAfter}
 use Rattle.model.specs.declared.reply.TableReply.{TableReply}
 use Rattle.model.proofs.Refusals.{first-found, first-after, refused}
@@ -21,7 +23,8 @@ refusal r = record { refusal = r; moved = 0; header = noHeader }
 -- a reply that is another
 pub grow-same
     : (t : Table) (s : Shape) (out left : Arrays) (z w : TableReply) → z ≡ w → GrowReply t s out left w → GrowReply t s out left z
-grow-same t s out left z w e g = record { reply = e ∙ g .reply; lent = g .lent }
+grow-same t s out left z w e g =
+    record { reply = e ∙ g .reply; least = λ q. ap (λ (r : TableReply). r .moved) e ∙ g .least q; lent = g .lent }
 
 module _ (t : Table) (s : Shape) (out : Arrays) (r : ℕ) (e : r ≡ first (growthTests t s)) where
   -- refused by rules 1 to 5
@@ -29,7 +32,11 @@ module _ (t : Table) (s : Shape) (out : Arrays) (r : ℕ) (e : r ≡ first (grow
   unfolding tableReply arraysAfter
   grow-refused n =
       let same : growRefusal t s ≡ r = first-found (growthTests t s) _ (λ z. n (e ∙ z)) ∙ sym e in
-      record { reply = rw same (sym (refused r _ _ n)); lent = rw same (sym (refused r _ _ n)) }
+      record {
+        reply = rw same (sym (refused r _ _ n));
+        least = λ q. absurd (n (sym same ∙ q));
+        lent = rw same (sym (refused r _ _ n));
+      }
 
   next : r ≡ 0 → growRefusal t s ≡ first ((8, intervalsFull t s) ∷ [])
   next z = first-after (growthTests t s) _ (growth-numbered t s) (sym e ∙ z)
@@ -40,15 +47,27 @@ module _ (t : Table) (s : Shape) (out : Arrays) (r : ℕ) (e : r ≡ first (grow
   unfolding tableReply arraysAfter intervalsFull first answer if_then_else_
   grow-full z l =
       let w = lt-ltb maxIntervals (length (expanded t s .intervals)) l in
-      record { reply = rw (next z, w); lent = rw (next z, w) }
+      let eight : growRefusal t s ≡ 8 = next z ∙ rw w in
+      record { reply = rw (next z, w); least = λ q. absurd (omega arith); lent = rw (next z, w) }
 
-  -- accepted: b buckets, g blocks, k intervals, m moved
+  -- accepted: a reply of the new table's numbers
   pub grow-accepted
-      : (g k m : ℕ) (left : Arrays) → r ≡ 0 → k ≤ maxIntervals → g ≡ length (newTops t s)
-      → k ≡ length (expanded t s .intervals) → m ≡ moved t (expanded t s) → left ≡ written (expanded t s) out
-      → GrowReply t s out left
-      (record { refusal = 0; moved = m; header = record { buckets = s .buckets; «block_count» = g; «interval_count» = k } })
+      : (left : Arrays) (z : TableReply) → r ≡ 0 → length (expanded t s .intervals) ≤ maxIntervals → z .refusal ≡ 0
+      → z .header .buckets ≡ s .buckets → z .header .«block_count» ≡ length (newTops t s)
+      → z .header .«interval_count» ≡ length (expanded t s .intervals)
+      → z .moved ≡ moved t (expanded t s) → z .moved ≡ least (shape t) s
+      → left ≡ written (expanded t s) out → GrowReply t s out left z
   unfolding tableReply arraysAfter intervalsFull first answer if_then_else_ header expanded
-  grow-accepted g k m left z l a b c d =
-      let w = le-ltb maxIntervals (length (expanded t s .intervals)) (rw (← b) l) in
-      record { reply = rw (next z, w, a, b, c); lent = rw (next z, w, d) }
+  grow-accepted left z ok few accepted buckets blocks intervals count formula stored =
+      let w = le-ltb maxIntervals (length (expanded t s .intervals)) few in
+      record {
+        reply =
+            rw (next ok, w)
+            (λ i. record {
+              refusal = accepted i;
+              moved = count i;
+              header = record { buckets = buckets i; «block_count» = blocks i; «interval_count» = intervals i };
+            });
+        least = λ q. formula;
+        lent = rw (next ok, w) stored;
+      }

@@ -11,7 +11,7 @@ use borrow.Author.Tests.{eq-eqb, ne-eqb, lt-ltb, le-ltb}
 use Rattle.model.specs.Basics.{if_then_else_}
 use Rattle.model.specs.Table.{Shape, Interval, interval, Table, shape}
 use Rattle.model.specs.Place.{intervalOf, blockOf, size}
-use Rattle.model.specs.Expansion.{newTops, has, dueAfter, lastBlock, lengthened, gain, pieces, filled}
+use Rattle.model.specs.Expansion.{newTops, has, dueAfter, lastBlock, lengthened, gain, lengthTo, pieces, filled}
 use Rattle.model.specs.Balance.{least}
 use Rattle.model.proofs.Counts.{sum-le}
 use Rattle.model.proofs.Listed.{
@@ -31,12 +31,9 @@ use Rattle.model.proofs.Listed.{
 use Rattle.model.proofs.Wells.{held-size, Well}
 use Rattle.model.proofs.Growths.{Accepted, length-either, old-dues, old-most, Grown, grown}
 
--- the last interval's block, and where that interval ends once it is lengthened
+-- the last interval's block
 abbrev pub lastOf : Table → ℕ
 lastOf t = lastBlock (t .intervals)
-
-abbrev pub lengthTo : Table → Shape → ℕ
-lengthTo t s = t .buckets + gain t s (lastOf t)
 
 -- THE PIECES, BLOCK BY BLOCK
 

@@ -8,15 +8,32 @@ use mathlib.Core.List.{List, [], _∷_, _++_}
 use native.Mathlib.Nat.{sub-zero, zero-add}
 use native.Mathlib.Omega.{arith}
 use lib.ListN.{length, getD, length-append}
-use Rattle.model.specs.Basics.{if_then_else_, from, before}
+use Rattle.model.specs.Basics.{from, before}
 use Rattle.model.specs.Table.{Shape, Interval, interval, Table, Arrays, table}
 use Rattle.model.specs.Place.{blockOf}
 use Rattle.model.specs.Refusal.{first}
 use Rattle.model.specs.Sound.{Sound}
-use Rattle.model.specs.Expansion.{newTops, has, dueAfter, someFall, lastBlock, lengthened, gain, pieces, filled, planFor, movedAfter, drained, expanded, moved}
+use Rattle.model.specs.Expansion.{
+  newTops,
+  has,
+  dueAfter,
+  someFall,
+  lastBlock,
+  lengthened,
+  gain,
+  lengthTo,
+  pieces,
+  filled,
+  parts,
+  planFor,
+  parted,
+  movedAfter,
+  extended,
+  drained,
+  expanded,
+  moved,
+}
 use Rattle.model.specs.Calls.{growthTests}
-use Rattle.model.specs.declared.plan.Action.{Action}
-use Rattle.model.specs.declared.plan.Action.the-variants.{Stay, Move, Split}
 use Rattle.model.specs.declared.plan.Plan.{Plan}
 use Rattle.model.specs.declared.table.Header.{Header}
 use Rattle.model.proofs.Intervals.{before-mono}
@@ -25,10 +42,10 @@ use Rattle.model.proofs.Rules.{before-next}
 use Rattle.model.proofs.Listed.{Tells, equal-or, size-most}
 use Rattle.model.proofs.Wells.{held-size, adjustment-most, Well, sound-well}
 use Rattle.model.proofs.Growths.{Accepted, accepted, none-falls}
-use Rattle.model.proofs.Filled.{lastOf, lengthTo, pieces-last, pieces-none, pieces-one, filledBlock, filled-grown, filled-least}
+use Rattle.model.proofs.Filled.{lastOf, pieces-last, pieces-none, pieces-one, filledBlock, filled-grown, filled-least}
 use Rattle.model.proofs.Drained.{drained-least}
 use Rattle.model.proofs.Expanded.{expanded-drained, expanded-filled}
-use Rattle.model.proofs.Walks.{reach, left, fresh, walkedParts, walked, drained-walked, plan-bounds, tells-bounds, last-from, lengthened-from}
+use Rattle.model.proofs.Walks.{walked, walked-more, plan-bounds, tells-bounds, last-from, lengthened-from}
 use Rattle.model.proofs.Kept.{moved-is-least}
 
 -- THE INTERVALS AHEAD
@@ -105,15 +122,6 @@ module _ (h : Header) (a : Arrays) (sound : Sound h a) where
 
 -- THE WALK
 
--- what an action makes of an interval, in front of the rest
-parts-front
-    : (c : Action) (i : Interval) (g e : ℕ) (rest : List Interval)
-    → walkedParts c i g e rest rest ≡ walkedParts c i g e [] [] ++ rest
-unfolding walkedParts
-parts-front Stay i g e rest = refl
-parts-front (Move c) i g e rest = refl
-parts-front (Split b c) i g e rest = refl
-
 module _ (h : Header) (a : Arrays) (s : Shape) where
   abbrev t : Table
   t = table h a
@@ -148,46 +156,38 @@ module _ (h : Header) (a : Arrays) (s : Shape) where
               ∙ k .after;
         }
 
-    -- what it writes before the rest, if it is not the last one,
+    -- what is made of it comes before the rest, if it is not the last one,
     pub walked-next
-        : (m : ℕ) → i + 1 < h .«interval_count»
-        → walked t s m start (ahead h a i) w
-        ≡ walkedParts (p .action) (lentInterval a i) (length (t .tops)) (getD (a .ends) i 0) [] []
-        ++ walked t s m (getD (a .ends) i 0) (ahead h a (i + 1)) (p .moved)
-    unfolding walked reach left
-    walked-next m n =
+        : i + 1 < h .«interval_count»
+        → walked t s start (ahead h a i) w
+        ≡ parts (p .action) (lentInterval a i) (length (t .tops)) [] ++ walked t s (getD (a .ends) i 0) (ahead h a (i + 1)) (p .moved)
+    walked-next n =
         let more = ahead-next h a (i + 1) n in
-        let rest = lentInterval a (i + 1) ∷ ahead h a (i + 1 + 1) in
-        ap (λ is. walked t s m start is w) (ahead-next h a i l ∙ ap (λ is. lentInterval a i ∷ is) more)
+        ap (λ is. walked t s start is w) (ahead-next h a i l ∙ ap (λ is. lentInterval a i ∷ is) more)
+        ∙ walked-more t s start (lentInterval a i) (lentInterval a (i + 1)) (ahead h a (i + 1 + 1)) w
         ∙ ap
         (λ (q : Plan).
-        walkedParts (q .action) (lentInterval a i) (length (t .tops)) (getD (a .ends) i 0)
-        (walked t s m (getD (a .ends) i 0) rest (q .moved))
-        (walked t s m (getD (a .ends) i 0) rest (q .moved)))
+        parts (q .action) (lentInterval a i) (length (t .tops)) []
+        ++ walked t s (getD (a .ends) i 0) (lentInterval a (i + 1) ∷ ahead h a (i + 1 + 1)) (q .moved))
         (sym e)
-        ∙ parts-front (p .action) (lentInterval a i) (length (t .tops)) (getD (a .ends) i 0) _
         ∙ ap
-        (λ is.
-        walkedParts (p .action) (lentInterval a i) (length (t .tops)) (getD (a .ends) i 0) [] []
-        ++ walked t s m (getD (a .ends) i 0) is (p .moved))
+        (λ is. parts (p .action) (lentInterval a i) (length (t .tops)) [] ++ walked t s (getD (a .ends) i 0) is (p .moved))
         (sym more)
 
-    -- and if it is, with the m new buckets
+    -- and if it is, with the new buckets
     pub walked-last
-        : (m : ℕ) → i + 1 ≡ h .«interval_count»
-        → walked t s m start (ahead h a i) w
-        ≡ walkedParts (p .action) (lentInterval a i) (length (t .tops)) (getD (a .ends) i 0 + m)
-        (fresh (length (t .tops)) (getD (a .ends) i 0) m (p .moved))
-        []
-    unfolding walked reach left fresh if_then_else_
-    walked-last m n =
-        ap (λ is. walked t s m start is w)
+        : i + 1 ≡ h .«interval_count»
+        → walked t s start (ahead h a i) w
+        ≡ extended (length (t .tops)) (h .buckets) (s .buckets - h .buckets) (p .moved)
+        (parts (p .action) (lentInterval a i) (length (t .tops)) [])
+    unfolding walked movedAfter parted table
+    walked-last n =
+        ap (λ is. walked t s start is w)
         (ahead-next h a i l ∙ ap (λ is. lentInterval a i ∷ is) (ahead-none h a (i + 1) (omega arith)))
         ∙ ap
         (λ (q : Plan).
-        walkedParts (q .action) (lentInterval a i) (length (t .tops)) (getD (a .ends) i 0 + m)
-        (fresh (length (t .tops)) (getD (a .ends) i 0) m (q .moved))
-        [])
+        extended (length (t .tops)) (h .buckets) (s .buckets - h .buckets) (q .moved)
+        (parts (q .action) (lentInterval a i) (length (t .tops)) []))
         (sym e)
 
   -- past the last interval the buckets moved in all are known
@@ -196,12 +196,9 @@ module _ (h : Header) (a : Arrays) (s : Shape) where
   walk-end i start w l k = ap (λ is. movedAfter t s start is w) (sym (ahead-none h a i l)) ∙ k .after
 
   -- the walk makes the drained intervals
-  pub walked-drained
-      : Sound h a → drained t s ≡ walked t s (s .buckets - h .buckets) 0 (ahead h a 0) 0
-  unfolding table
-  walked-drained sound =
-      drained-walked t s (sound-well h a sound)
-      ∙ ap (λ is. walked t s (s .buckets - h .buckets) 0 is 0) (sym (ahead-all h a))
+  pub walked-drained : drained t s ≡ walked t s 0 (ahead h a 0) 0
+  unfolding drained walked
+  walked-drained = ap (λ is. walked t s 0 is 0) (sym (ahead-all h a))
 
 -- THE PIECES
 

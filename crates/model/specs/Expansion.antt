@@ -45,6 +45,10 @@ lengthened m (i ∷ (j ∷ rest)) = i ∷ lengthened m (j ∷ rest)
 unfoldable pub gain : Table → Shape → ℕ → ℕ
 gain t s j = dueAfter t s j - has t j
 
+-- where the last interval ends once its block has taken what it gains: there the other pieces begin
+abbrev pub lengthTo : Table → Shape → ℕ
+lengthTo t s = t .buckets + gain t s (lastBlock (t .intervals))
+
 -- the new intervals from bucket b on, for the n blocks from j on in rising number: each that gains, but the last
 -- interval's block, gets one, which brings it to its due; the adjustment is the start minus what the block had
 unfoldable pub pieces : Table → Shape → ℕ → ℕ → ℕ → List Interval

@@ -71,8 +71,8 @@ row-slots old new x s s′ h h′ =
     rw (slot-bin _ _ _ s h, slot-position _ _ _ s h, slot-bin _ _ _ s′ h′, slot-position _ _ _ s′ h′)
 
 -- what places a bucket places the later ones
-pub places-more : (p : Placing) (x n : ℕ) → Places p x → Places p (x + n)
-places-more p x n h = record { some = h .some; fits = h .fits; ranked = omega (arith, h .ranked) }
+pub places-later : (p : Placing) (x y : ℕ) → x ≤ y → Places p x → Places p y
+places-later p x y l h = record { some = h .some; fits = h .fits; ranked = omega (arith, h .ranked) }
 
 -- ROWS IN A BUFFER
 

@@ -12,7 +12,7 @@ use Rattle.model.specs.Basics.{from, joined, before}
 use Rattle.model.specs.Table.{Shape, Interval, Arrays, table, bins, shape, over}
 use Rattle.model.specs.Refusal.{first}
 use Rattle.model.specs.Sound.{Sound}
-use Rattle.model.specs.Expansion.{dueAfter, someFall, plan, planFor, expanded}
+use Rattle.model.specs.Expansion.{dueAfter, someFall, plan, parts, planFor, expanded}
 use Rattle.model.specs.Relocations.{row, page}
 use Rattle.model.specs.Relocations
 use Rattle.model.specs.Calls.{growthTests}
@@ -28,8 +28,9 @@ use Rattle.model.proofs.Growths.{accepted, some-more}
 use Rattle.model.proofs.Drained.{drainedBlock, plan-stay, plan-move, plan-split}
 use Rattle.model.proofs.Rows.{rows-least, rowsBelow, rows-more, rowsBefore, lentFirst, lentBins, Cut, end-within, rows-size, part-rows, part-row}
 use Rattle.model.proofs.Pages.{Fives, fives-from, fives-rows, page-past}
-use Rattle.relocations.specs.Spans.{placing, placedRow, partRows, paged, Part, Acts}
+use Rattle.relocations.specs.Spans.{placing, placedRow, partRows, paged, Part, PartsMove}
 use Rattle.relocations.specs.declared.Placing.{Placing}
+use Rattle.relocations.proofs.Actions.{partsOf, rows-stay, rows-move, rows-split}
 use Rattle.relocations.proofs.Spans.{page-full, page-fits, paged-behind, five-numbers}
 
 -- HOW MANY ROWS
@@ -49,16 +50,17 @@ record Planned (due start : ℕ) (i : Interval) (w p : ℕ) : Type 0 where
   cut : Cut due start i p
   moved : plan due start i w .moved ≡ w + (i .end - p)
   rows
-      : (old : Placing) (f d : ℕ)
-      → partRows (plan due start i w .action) start (i .end) old f d ≡ from (placedRow old (placing f d (p - w))) p (i .end - p)
-  acts
-      : (old : Placing) (f d : ℕ) → Part old (placing f d (p - w)) p (i .end) w
-      → Acts (plan due start i w .action) start (i .end) old f d w
+      : (old : Placing) (f d b g : ℕ) → b < g
+      → partRows g old f d start (partsOf (plan due start i w .action) (i .end) old b g)
+      ≡ from (placedRow old (placing f d (p - w))) p (i .end - p)
+  parts-move
+      : (old : Placing) (f d : ℕ) → Part old (placing f d (p - w)) p (i .end) w → (b g : ℕ) → b < g
+      → PartsMove g old f d w start (partsOf (plan due start i w .action) (i .end) old b g)
 
 planned
     : (due start : ℕ) (i : Interval) (w : ℕ) → start < i .end → i .adjustment ≤ start
     → (p : ℕ) × Planned due start i w p
-unfolding partRows from
+unfolding parts from
 planned due start i w some low =
     ⊎-elim
     (λ l.
@@ -69,8 +71,8 @@ planned due start i w some low =
       record {
         cut = record { after = omega arith; within = omega arith; kept = λ x b e. e; gone = λ x b e. b };
         moved = ap (λ v. v .moved) same;
-        rows = λ old f d. rw same refl;
-        acts = λ old f d h. rw same h;
+        rows = λ old f d b g n. rw same (rows-split _ start (i .end) old f d b g n _ _ refl);
+        parts-move = λ old f d h b g n. rw same (λ e. absurd (omega arith), (λ e. h, tt));
       },
     ))
     (λ k.
@@ -85,8 +87,8 @@ planned due start i w some low =
               gone = λ x b e. omega arith;
             };
         moved = ap (λ v. v .moved) same;
-        rows = λ old f d. rw same refl;
-        acts = λ old f d h. rw same h;
+        rows = λ old f d b g n. rw same (rows-move _ start (i .end) old f d b g n _ refl);
+        parts-move = λ old f d h b g n. rw same (λ e. h, tt);
       },
     ))
     (below-or (start - i .adjustment) due))
@@ -103,8 +105,8 @@ planned due start i w some low =
               gone = λ x b e. absurd (omega arith);
             };
         moved = ap (λ v. v .moved) same ∙ omega arith;
-        rows = λ old f d. rw (same, none) refl;
-        acts = λ old f d h. rw same tt;
+        rows = λ old f d b g n. rw (same, none) (rows-stay _ start (i .end) old f d b g n refl);
+        parts-move = λ old f d h b g n. rw same (λ e. absurd (omega arith), tt);
       },
     ))
     (below-or due (i .end - i .adjustment))
@@ -163,9 +165,8 @@ module _
 
     abbrev parted : List (List ℕ)
     parted =
-        partRows (plan due start (lentInterval a i) moved .action) start end (lentPlacing a i)
-        (bins (table h a))
-        (s .bins - bins (table h a))
+        partRows (h .«block_count») (lentPlacing a i) (bins (table h a)) (s .bins - bins (table h a)) start
+        (partsOf (plan due start (lentInterval a i) moved .action) end (lentPlacing a i) (getD (a .blocks) i 0) (h .«block_count»))
 
     here : (p : ℕ) × Planned due start (lentInterval a i) moved p
     here = planned due start (lentInterval a i) moved (sound .endsRise i l) (adjustment-most h a sound i l)
@@ -201,17 +202,23 @@ module _
           ranked = omega arith;
         }
 
-    -- what the plan asks of its parts, the rows that it adds, and how many
-    step-acts
-        : Acts (plan due start (lentInterval a i) moved .action) start end (lentPlacing a i)
-        (bins (table h a))
-        (s .bins - bins (table h a))
-        moved
-    step-acts = here .1 .acts (lentPlacing a i) (bins (table h a)) (s .bins - bins (table h a)) part-here
+    -- what moves of it, the rows that it adds, and how many
+    step-parts
+        : (b g : ℕ) → b < g
+        → PartsMove g (lentPlacing a i) (bins (table h a)) (s .bins - bins (table h a)) moved start
+        (partsOf (plan due start (lentInterval a i) moved .action) end (lentPlacing a i) b g)
+    step-parts = here .1 .parts-move (lentPlacing a i) (bins (table h a)) (s .bins - bins (table h a)) part-here
+
+    parted-from
+        : parted
+        ≡ from (placedRow (lentPlacing a i) (placing (bins (table h a)) (s .bins - bins (table h a)) (here .0 - moved)))
+        (here .0)
+        (end - here .0)
+    parted-from = here .1 .rows (lentPlacing a i) (bins (table h a)) (s .bins - bins (table h a)) _ _ (sound .blocksBelow i l)
 
     step-fives : Fives parted
     step-fives =
-        subst Fives (sym (here .1 .rows (lentPlacing a i) (bins (table h a)) (s .bins - bins (table h a))))
+        subst Fives (sym parted-from)
         (fives-from (placedRow (lentPlacing a i) _) (five-numbers (lentPlacing a i) _) (here .0) (end - here .0))
 
     step-rows : below end ≡ below start ++ parted
@@ -221,7 +228,7 @@ module _
         ∙ ap (λ rs. below start ++ rs)
         (from-ext (row (table h a) (expanded (table h a) s)) (placedRow (lentPlacing a i) _) (here .0) (end - here .0)
         (λ x b e. part-row h a s sound ok falls i (here .0) l (here .1 .cut) x b (omega (arith, here .1 .cut .within)))
-        ∙ sym (here .1 .rows (lentPlacing a i) (bins (table h a)) (s .bins - bins (table h a))))
+        ∙ sym parted-from)
 
     step-moved : plan due start (lentInterval a i) moved .moved ≡ length (below end)
     step-moved =
@@ -230,7 +237,7 @@ module _
           here .1 .moved,
           ap length step-rows,
           length-append (below start) parted,
-          ap length (here .1 .rows (lentPlacing a i) (bins (table h a)) (s .bins - bins (table h a))),
+          ap length parted-from,
           length-from (placedRow (lentPlacing a i) (placing (bins (table h a)) (s .bins - bins (table h a)) (here .0 - moved)))
               (here .0)
               (end - here .0),
@@ -287,14 +294,19 @@ module _
           (l : i < h .«interval_count») (plan : Plan) (old : Placing) (n : ℕ)
           (e : plan ≡ planFor (table h a) s start (lentInterval a i) moved) (f : old ≡ lentPlacing a i) (g : n ≡ bins (table h a)) where
         -- what its rows ask
-        pub walking-acts : Acts (plan .action) start (getD (a .ends) i 0) old n (s .bins - n) moved
+        pub walking-parts
+            : (b c : ℕ) → b < c → PartsMove c old n (s .bins - n) moved start (partsOf (plan .action) (getD (a .ends) i 0) old b c)
         unfolding planFor
-        walking-acts = rw (e, f, g, v .starts, v .counted) (step-acts i l)
+        walking-parts = rw (e, f, g, v .starts, v .counted) (step-parts i l)
 
         -- and the next interval, once they are written
         pub walking-more
             : (rows′ : List ℕ)
-            → rows′ ≡ paged q moved (partRows (plan .action) start (getD (a .ends) i 0) old n (s .bins - n)) rows
+            → ((b c : ℕ) → b < c
+            → rows′
+            ≡ paged q moved
+            (partRows c old n (s .bins - n) start (partsOf (plan .action) (getD (a .ends) i 0) old b c))
+            rows)
             → Walking h a s q rows₀ rows′ (i + 1) (getD (a .ends) i 0) (plan .moved)
         unfolding planFor before
         walking-more rows′ same =
@@ -304,7 +316,7 @@ module _
               counted = rw (e, v .starts, v .counted, add-one i) (step-moved i l);
               below = rw (e, v .starts, v .counted, step-moved i l) (rows-few i l (end i l) (le-refl _));
               filled =
-                  same
+                  same (getD (a .blocks) i 0) (h .«block_count») (sound .blocksBelow i l)
                   ∙ rw (e, f, g, v .filled, v .starts, v .counted)
                   (paged-behind q (below i l (before (a .ends) i)) (parted i l) rows₀
                   (fives-rows (table h a) (expanded (table h a) s) 0 (before (a .ends) i))

@@ -2,11 +2,11 @@
 use Prim.Native.Nat.{ℕ, _+_, _-_, _*_, _/_, _%_, _^_, _≤_, _<_}
 use mathlib.Core.List.{List, [], _∷_, _++_}
 use mathlib.Core.Path.{_≡_}
+use lib.Dec.{eqb}
 use lib.ListN.{length, take, drop}
-use Rattle.model.specs.Basics.{from, joined}
+use Rattle.model.specs.Basics.{if_then_else_, from, joined}
+use Rattle.model.specs.Table.{Interval}
 use Rattle.model.specs.Relocations.{page}
-use Rattle.model.specs.declared.plan.Action.{Action}
-use Rattle.model.specs.declared.plan.Action.the-variants.{Stay, Move, Split}
 use Rattle.relocations.specs.declared.Placing.{Placing}
 use Rattle.relocations.specs.declared.Slot.{Slot}
 
@@ -27,11 +27,13 @@ placedRow old new x =
 unfoldable pub withRows : ℕ → List (List ℕ) → List ℕ → List ℕ
 withRows at rs buffer = take (5 * at) buffer ++ joined rs ++ drop (5 * (at + length rs)) buffer
 
--- the rows of an interval from `start` up to `end` whose action is given: what moves goes to the d bins from f on
-unfoldable pub partRows : Action → ℕ → ℕ → Placing → ℕ → ℕ → List (List ℕ)
-partRows Stay start end old f d = []
-partRows (Move c) start end old f d = from (placedRow old (placing f d c)) start (end - start)
-partRows (Split b c) start end old f d = from (placedRow old (placing f d c)) b (end - b)
+-- the rows of what moves of an interval that starts at `start`, from its parts: those of block g, which go from the places of
+-- `old` to the d bins from f on
+unfoldable pub partRows : ℕ → Placing → ℕ → ℕ → ℕ → List Interval → List (List ℕ)
+partRows g old f d start [] = []
+partRows g old f d start (i ∷ rest) =
+    (if eqb (i .block) g then from (placedRow old (placing f d (i .adjustment))) start (i .end - start) else [])
+    ++ partRows g old f d (i .end) rest
 
 -- a buffer with those of the rows rs written into it that the page from order number q on has, where rs come after w others
 unfoldable pub paged : ℕ → ℕ → List (List ℕ) → List ℕ → List ℕ
@@ -60,8 +62,8 @@ pub record Part (old new : Placing) (p e w : ℕ) : Type 0 where
   pub within : p ≤ e
   pub ranked : p - new .adjustment ≡ w
 
--- an action of which the same holds
-abbrev pub Acts : Action → ℕ → ℕ → Placing → ℕ → ℕ → ℕ → Type 0
-Acts Stay start end old f d w = Unit {0}
-Acts (Move c) start end old f d w = Part old (placing f d c) start end w
-Acts (Split b c) start end old f d w = Part old (placing f d c) b end w
+-- parts of an interval that starts at `start`, of which the same holds for those of block g
+abbrev pub PartsMove : ℕ → Placing → ℕ → ℕ → ℕ → ℕ → List Interval → Type 0
+PartsMove g old f d w start [] = Unit {0}
+PartsMove g old f d w start (i ∷ rest) =
+    (i .block ≡ g → Part old (placing f d (i .adjustment)) start (i .end) w) × PartsMove g old f d w (i .end) rest

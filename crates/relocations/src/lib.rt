@@ -1,5 +1,5 @@
 // The move list: the rows of the buckets that a growth moves.
-ghost use Prim.Native.Nat.{_+_, _-_, _*_, _^_, _<_, _≤_};
+ghost use Prim.Native.Nat.{ℕ, _+_, _-_, _*_, _^_, _<_, _≤_};
 ghost use mathlib.Core.Path.{_≡_};
 ghost use mathlib.Core.List.{[], _∷_};
 ghost use mathlib.Core.Bool.{true};
@@ -7,13 +7,13 @@ ghost use lib.ListN.{length, getD};
 ghost use lib.Seq.{sets};
 ghost use Rattle.model.specs.Lent.{LentSound, tableGiven, tableNow};
 ghost use Rattle.model.specs.Basics.{from, joined, before as entryBefore};
-ghost use Rattle.model.specs.Table.{over, sizes};
+ghost use Rattle.model.specs.Table.{interval, over, sizes};
 ghost use Rattle.model.specs.Refusal.{first as firstOf};
-ghost use Rattle.model.specs.Expansion.{expanded, someFall};
+ghost use Rattle.model.specs.Expansion.{parts, expanded, someFall};
 ghost use Rattle.model.specs.Relocations.{rows as rowsOf, page};
 ghost use Rattle.model.specs.Calls.{growthTests};
 ghost use Rattle.plan.specs.Shares.{DuesAfter};
-ghost use Rattle.relocations.specs.Spans.{placing, placedRow, withRows, partRows, paged, Places, Slotted, Steps, Part, Acts};
+ghost use Rattle.relocations.specs.Spans.{placing, placedRow, withRows, partRows, paged, Places, Slotted, Steps, Part, PartsMove};
 use model::plan::Action;
 use model::table::Header;
 use plan::dues_after;
@@ -158,7 +158,8 @@ fn write_part(old: Placing, new: Placing, bucket: u32, end: u32, first: u32, row
     write_span(old, new, start, start + free as u32, at, rows)
 }
 
-// The rows of an interval whose action is given, where `moved` rows come before them.
+// The rows of an interval whose action is given, where `moved` rows come before them. They do not depend on the number of its
+// block, nor on that of the new one.
 fn write_action(
     action: Action,
     start: u32,
@@ -170,9 +171,18 @@ fn write_action(
     first: u32,
     rows: &mut [u32],
 )
-    requires { ⌜ Acts action start end old «first_bin» bins moved ⌝ }
+    requires { ⌜
+        ((block g : ℕ) → block < g
+        → PartsMove g old «first_bin» bins moved start (parts action (interval end block (old .adjustment)) g []))
+        ⌝ }
     ensures { λ _.
-        ⌜ now (rows .exit) ≡ paged first moved (partRows action start end old «first_bin» bins) (now (rows .entry)) ⌝ }
+        ⌜
+        ((block g : ℕ) → block < g
+        → now (rows .exit)
+        ≡ paged first moved
+        (partRows g old «first_bin» bins start (parts action (interval end block (old .adjustment)) g []))
+        (now (rows .entry)))
+        ⌝ }
 {
     match action {
         Action::Stay => {}

@@ -59,19 +59,26 @@ left-behind-requires c κs =
 -- one turn: what the plan makes of the interval comes first, and where the walk comes to
 turn-made
     : (c : tie.After-left-behind Inv-loop μ-loop)
-    → Front
-    (toMake (c .before .before .before .before .before .before .before .before .before .args .h) (a (c .before .before .before .before .before .before .before .before .before)) (z (c .before .before .before .before .before .before .before .before .before)) (c .before .before .before .before .loop .i) (c .before .before .before .before .loop .start) (c .before .before .before .before .loop .moved))
-    (made (c .before .plan-at .result) (lentInterval (a (c .before .before .before .before .before .before .before .before .before)) (c .before .before .before .before .loop .i)) (c .before .before .before .before .before .before .before .before .before .args .h .«block_count») (c .left-behind .result))
-    (toMake (c .before .before .before .before .before .before .before .before .before .args .h) (a (c .before .before .before .before .before .before .before .before .before)) (z (c .before .before .before .before .before .before .before .before .before)) (c .before .before .before .before .loop .i + 1) (getD (c .before .before .before .before .before .before .before .before .before .args .ends .now) (c .before .before .before .before .loop .i) 0) (c .before .plan-at .result .moved))
+    → let s = c .before .before .before .before .before .before .before .before .before in
+    let turn = c .before .before .before .before .loop in
+    let p = c .before .plan-at .result in
+    Front
+    (toMake (s .args .h) (a s) (z s) (turn .i) (turn .start) (turn .moved))
+    (made p (lentInterval (a s) (turn .i)) (s .args .h .«block_count») (c .left-behind .result))
+    (toMake (s .args .h) (a s) (z s) (turn .i + 1) (getD (s .args .ends .now) (turn .i) 0) (p .moved))
 turn-made c =
-    rw (c .left-behind .ensures)
-    (made-first _ _ (z (c .before .before .before .before .before .before .before .before .before)) (c .before .before .before .before .before .before .before .before .before .pre .sound) _ _ _ (omega arith) _ (c .before .plan-at .ensures))
+    let s = c .before .before .before .before .before .before .before .before .before in
+    rw (c .left-behind .ensures) (made-first _ _ (z s) (s .pre .sound) _ _ _ (omega arith) _ (c .before .plan-at .ensures))
 
 turn-walk
     : (c : tie.After-left-behind Inv-loop μ-loop)
-    → Walk (c .before .before .before .before .before .before .before .before .before .args .h) (a (c .before .before .before .before .before .before .before .before .before)) (z (c .before .before .before .before .before .before .before .before .before)) (c .before .before .before .before .loop .i + 1) (getD (c .before .before .before .before .before .before .before .before .before .args .ends .now) (c .before .before .before .before .loop .i) 0) (c .before .plan-at .result .moved)
+    → let s = c .before .before .before .before .before .before .before .before .before in
+    let i = c .before .before .before .before .loop .i in
+    Walk (s .args .h) (a s) (z s) (i + 1) (getD (s .args .ends .now) i 0) (c .before .plan-at .result .moved)
 turn-walk c =
-    walk-next _ _ _ _ (c .before .before .before .before .loop .start) (c .before .before .before .before .loop .moved) (omega arith) _ (c .before .plan-at .ensures) (c .before .before .before .before .before .before .before .before .before .pre .sound) (c .before .before .before .before .loop .inv .2)
+    let s = c .before .before .before .before .before .before .before .before .before in
+    let turn = c .before .before .before .before .loop in
+    walk-next _ _ _ _ (turn .start) (turn .moved) (omega arith) _ (c .before .plan-at .ensures) (s .pre .sound) (turn .inv .2)
 
 part-count-requires : tie.Need-part-count-requires Inv-loop μ-loop
 part-count-requires c κs = search needs
@@ -102,7 +109,8 @@ loop-again c =
       omega (
         arith,
         simp length-append at (ap length (turn-made p .joined)),
-        c .before .part-count .ensures .1 (lentInterval (a start) (turn .i)) (start .args .h .«block_count»),
+        c .before .part-count .ensures .1 (lentInterval (a start) (turn .i)) (start .args .h .«block_count»)
+            (start .pre .sound .blocksBelow (turn .i) (omega arith)),
       ),
     )
 

@@ -1,6 +1,6 @@
 -- `drain::write_drained` meets its contract. The loop's invariant: what is written and what the walk still makes are the
 -- whole. Assumes nothing.
-use Prim.Native.Nat.{_+_, _-_, _≤_}
+use Prim.Native.Nat.{_+_, _-_, _≤_, _<_}
 use native.Mathlib.Omega.{arith}
 use lib.ListN.{getD}
 use Rattle.model.specs.Table.{Shape, Arrays, arrays, table, sizes}
@@ -57,30 +57,46 @@ left-behind-requires c κs =
     let given = c .before .before .before .before .before .before .before .before .before .before .before .pre .0 in
     (omega arith, accepted _ _ (given .asked) .moreBuckets)
 
--- one turn: what the plan makes of the interval comes first, and where the walk comes to
+-- one turn: what the plan makes of the interval comes first, where the walk comes to, the interval's block, and its end with the
+-- new buckets behind it
 turn-made
     : (c : tie.After-left-behind Inv-loop μ-loop)
-    → Front
-    (toMake (c .before .before .before .before .before .before .before .before .before .before .before .before .args .h) (a (c .before .before .before .before .before .before .before .before .before .before .before .before)) (z (c .before .before .before .before .before .before .before .before .before .before .before .before)) (c .before .before .before .before .loop .i) (c .before .before .before .before .loop .start) (c .before .before .before .before .loop .moved))
-    (made (c .before .plan-at .result) (lentInterval (a (c .before .before .before .before .before .before .before .before .before .before .before .before)) (c .before .before .before .before .loop .i)) (c .before .before .before .before .before .before .before .before .before .before .before .before .args .h .«block_count») (c .left-behind .result))
-    (toMake (c .before .before .before .before .before .before .before .before .before .before .before .before .args .h) (a (c .before .before .before .before .before .before .before .before .before .before .before .before)) (z (c .before .before .before .before .before .before .before .before .before .before .before .before)) (c .before .before .before .before .loop .i + 1) (getD (c .before .before .before .before .before .before .before .before .before .before .before .before .args .ends .now) (c .before .before .before .before .loop .i) 0) (c .before .plan-at .result .moved))
+    → let s = c .before .before .before .before .before .before .before .before .before .before .before .before in
+    let turn = c .before .before .before .before .loop in
+    let p = c .before .plan-at .result in
+    Front
+    (toMake (s .args .h) (a s) (z s) (turn .i) (turn .start) (turn .moved))
+    (made p (lentInterval (a s) (turn .i)) (s .args .h .«block_count») (c .left-behind .result))
+    (toMake (s .args .h) (a s) (z s) (turn .i + 1) (getD (s .args .ends .now) (turn .i) 0) (p .moved))
 turn-made c =
-    rw (c .left-behind .ensures)
-    (made-first _ _ (z (c .before .before .before .before .before .before .before .before .before .before .before .before)) (c .before .before .before .before .before .before .before .before .before .before .before .before .pre .0 .sound) _ _ _ (omega arith) _ (c .before .plan-at .ensures))
+    let s = c .before .before .before .before .before .before .before .before .before .before .before .before in
+    rw (c .left-behind .ensures) (made-first _ _ (z s) (s .pre .0 .sound) _ _ _ (omega arith) _ (c .before .plan-at .ensures))
 
 turn-walk
     : (c : tie.After-left-behind Inv-loop μ-loop)
-    → Walk (c .before .before .before .before .before .before .before .before .before .before .before .before .args .h) (a (c .before .before .before .before .before .before .before .before .before .before .before .before)) (z (c .before .before .before .before .before .before .before .before .before .before .before .before)) (c .before .before .before .before .loop .i + 1) (getD (c .before .before .before .before .before .before .before .before .before .before .before .before .args .ends .now) (c .before .before .before .before .loop .i) 0) (c .before .plan-at .result .moved)
+    → let s = c .before .before .before .before .before .before .before .before .before .before .before .before in
+    let i = c .before .before .before .before .loop .i in
+    Walk (s .args .h) (a s) (z s) (i + 1) (getD (s .args .ends .now) i 0) (c .before .plan-at .result .moved)
 turn-walk c =
-    walk-next _ _ _ _ (c .before .before .before .before .loop .start) (c .before .before .before .before .loop .moved) (omega arith) _ (c .before .plan-at .ensures) (c .before .before .before .before .before .before .before .before .before .before .before .before .pre .0 .sound) (c .before .before .before .before .loop .inv .1)
+    let s = c .before .before .before .before .before .before .before .before .before .before .before .before in
+    let turn = c .before .before .before .before .loop in
+    walk-next _ _ _ _ (turn .start) (turn .moved) (omega arith) _ (c .before .plan-at .ensures) (s .pre .0 .sound) (turn .inv .1)
+
+turn-own
+    : (c : tie.After-left-behind Inv-loop μ-loop)
+    → let s = c .before .before .before .before .before .before .before .before .before .before .before .before in
+    getD (s .args .blocks .now) (c .before .before .before .before .loop .i) 0 < s .args .h .«block_count»
+turn-own c = c .before .before .before .before .before .before .before .before .before .before .before .before .pre .0 .sound .blocksBelow _ (omega arith)
 
 turn-fits
     : (c : tie.After-left-behind Inv-loop μ-loop)
-    → getD (c .before .before .before .before .before .before .before .before .before .before .before .before .args .ends .now) (c .before .before .before .before .loop .i) 0 + c .left-behind .result ≤ c .before .before .before .before .before .before .before .before .before .before .before .before .args .buckets
+    → let s = c .before .before .before .before .before .before .before .before .before .before .before .before in
+    getD (s .args .ends .now) (c .before .before .before .before .loop .i) 0 + c .left-behind .result ≤ s .args .buckets
 unfolding table
 turn-fits c =
+    let s = c .before .before .before .before .before .before .before .before .before .before .before .before in
     rw (c .left-behind .ensures)
-    (behind-fits _ _ (z (c .before .before .before .before .before .before .before .before .before .before .before .before)) (c .before .before .before .before .before .before .before .before .before .before .before .before .pre .0 .sound) (c .before .before .before .before .loop .i) (omega arith) (accepted _ _ (c .before .before .before .before .before .before .before .before .before .before .before .before .pre .0 .asked) .moreBuckets))
+    (behind-fits _ _ (z s) (s .pre .0 .sound) (c .before .before .before .before .loop .i) (omega arith) (accepted _ _ (s .pre .0 .asked) .moreBuckets))
 
 mul-end : tie.Need-mul-end Inv-loop μ-loop
 mul-end c = omega arith
@@ -104,7 +120,7 @@ write-parts-requires : tie.Need-write-parts-requires Inv-loop μ-loop
 write-parts-requires c κs =
     let p = c .before .before .before .before .before .before in
     let start = c .before .before .before .before .before .before .before .before .before .before .before .before .before .before .before .before .before .before in (
-      (turn-walk p .below, omega (arith, turn-fits p, start .fits .buckets)),
+      (turn-own p, turn-walk p .below, omega (arith, turn-fits p, start .fits .buckets)),
       writing-part (c .before .before .before .before .before .before .before .before .before .before .loop .inv .2) (turn-made p) (room-less (omega arith) (start .pre .1)),
     )
 

@@ -1,10 +1,5 @@
--- `expansion::copy_intervals` meets its contract: each array is a column of the intervals. Assumes nothing.
-use mathlib.Core.Path.{sym, _∙_, ap}
-use mathlib.Core.List.{[]}
-use lib.Seq.{sets}
+-- `expansion::copy_intervals` meets its contract: each array is copied. Assumes nothing.
 use borrow.Author.Needs.{needs}
-use Rattle.model.specs.Table.{arrays}
-use Rattle.model.proofs.Tables.{lentInterval, map-from, from-getD}
 use Rattle.expansion.proofs.copy_intervals.Statement.{statement}
 use Rattle.expansion.proofs.copy_intervals.Tie as tie
 
@@ -27,22 +22,11 @@ same-length-3 : tie.Need-same-length-3
 same-length-3 c = search needs
 
 returns : tie.Need-returns
-returns c =
-    let start = c .before .before .before .before .before .before .before .before .before .before .before .before .before .before .before .before .before .before in
-    let room = start .pre .0 in
-    let f = lentInterval (arrays [] (start .args .ends .now) (start .args .blocks .now) (start .args .adjustments .now)) in
-    let n = start .args .count in
-    record {
-      ends =
-          c .before .before .before .before .before .before .before .before .before .before .copy .ensures
-          ∙ ap (sets _ 0) (sym (map-from (λ i. i .end) f 0 n ∙ from-getD (start .args .ends .now) 0 n (room .ends)));
-      blocks =
-          c .before .before .before .before .before .before .copy2 .ensures
-          ∙ ap (sets _ 0) (sym (map-from (λ i. i .block) f 0 n ∙ from-getD (start .args .blocks .now) 0 n (room .blocks)));
-      adjustments =
-          c .before .before .copy3 .ensures
-          ∙ ap (sets _ 0) (sym (map-from (λ i. i .adjustment) f 0 n ∙ from-getD (start .args .adjustments .now) 0 n (room .adjustments)));
-    }
+returns c = (
+  c .before .before .before .before .before .before .before .before .before .before .copy .ensures,
+  c .before .before .before .before .before .before .copy2 .ensures,
+  c .before .before .copy3 .ensures,
+)
 
 pub copy-intervals-spec : {M : Type 1} → statement M
 copy-intervals-spec =

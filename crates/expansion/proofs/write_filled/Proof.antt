@@ -6,12 +6,11 @@ use lib.ListN.{length, getD}
 use borrow.Author.Needs.{needs}
 use Rattle.model.specs.Limits.{maxBlocks}
 use Rattle.model.specs.Table.{Shape, Table, sizes}
-use Rattle.model.specs.Expansion.{newTops, pieces}
-use Rattle.model.proofs.Filled.{lengthTo}
+use Rattle.model.specs.Expansion.{newTops, lengthTo, pieces}
 use Rattle.model.proofs.Steps.{filled-length}
 use Rattle.model.specs.Lent.{lent}
 use Rattle.drain.specs.Stored.{Room}
-use Rattle.expansion.proofs.Filling.{block-few, end-filled, end-most, filled-stored}
+use Rattle.expansion.proofs.Filling.{block-few, end-filled, end-most, old-stored, filled-stored}
 use Rattle.count.proofs.Pieces.{gain-from}
 use Rattle.drain.proofs.Stores.{room-less, stored-room}
 use Rattle.expansion.proofs.write_filled.Statement.{statement}
@@ -100,14 +99,24 @@ shared-slice-read-write-interval c = search needs
 
 write-interval-requires : tie.Need-write-interval-requires
 write-interval-requires c κs =
-    let start = c .before .before .before .before .before .before .before .before .before .before .before .before .before .before .before .before .before .before .before .before .before .before .before .before .before .before in
+    let copied = c .before .before .before .before .before .before .before .before .before .before in
+    let start = copied .before .before .before .before .before .before .before .before .before .before .before .before .before .before .before .before in
     let some = start .pre .0 .sound .someIntervals in
-    room-less (omega arith) (stored-room (c .before .before .before .before .before .before .before .before .before .before .copy-intervals .ensures) (room start))
+    room-less (omega arith)
+    (stored-room (old-stored _ _ _ _ _ (start .pre .0) (copied .copy-intervals .ensures)) (room start))
 
 write-pieces-requires : tie.Need-write-pieces-requires
 write-pieces-requires c κs =
-    let start = c .before .before .before .before .before .before .before .before .before .before .before .before .before .before .before .before .before .before .before .before .before .before .before .before .before .before .before .before .before .before .before .before .before .before .before .before in
-    (start .pre .0, (reaches start, stored-room (c .before .before .before .before .before .before .before .before .before .write-interval .ensures) (stored-room (c .before .before .before .before .before .before .before .before .before .before .before .before .before .before .before .before .before .before .before .before .copy-intervals .ensures) (room start))))
+    let longer = c .before .before .before .before .before .before .before .before .before in
+    let copied = longer .before .before .before .before .before .before .before .before .before .before .before in
+    let start = copied .before .before .before .before .before .before .before .before .before .before .before .before .before .before .before .before in (
+      start .pre .0,
+      (
+        reaches start,
+        stored-room (longer .write-interval .ensures)
+            (stored-room (old-stored _ _ _ _ _ (start .pre .0) (copied .copy-intervals .ensures)) (room start)),
+      ),
+    )
 
 same-length : tie.Need-same-length
 same-length c = search needs
@@ -120,8 +129,14 @@ same-length-3 c = search needs
 
 returns : tie.Need-returns
 returns c =
-    let start = c .before .before .before .before .before .before .before .before .before .before .before .before .before .before .before .before .before .before .before .before .before .before .before .before .before .before .before .before .before .before .before .before .before .before .before .before .before .before .before .before .before .before .before in
-    filled-stored _ _ _ _ _ (start .pre .0) (end start) (reaches start) (c .before .before .before .before .before .before .before .before .before .before .before .before .before .before .before .before .before .before .before .before .before .before .before .before .before .before .before .copy-intervals .ensures) (c .before .before .before .before .before .before .before .before .before .before .before .before .before .before .before .before .write-interval .ensures) (c .before .before .before .before .before .before .write-pieces .ensures)
+    let pieced = c .before .before .before .before .before .before in
+    let longer = pieced .before .before .before .before .before .before .before .before .before .before in
+    let copied = longer .before .before .before .before .before .before .before .before .before .before .before in
+    let start = copied .before .before .before .before .before .before .before .before .before .before .before .before .before .before .before .before in
+    filled-stored _ _ _ _ _ (start .pre .0) (end start) (reaches start)
+    (old-stored _ _ _ _ _ (start .pre .0) (copied .copy-intervals .ensures))
+    (longer .write-interval .ensures)
+    (pieced .write-pieces .ensures)
 
 pub write-filled-spec : {M : Type 1} → statement M
 write-filled-spec =

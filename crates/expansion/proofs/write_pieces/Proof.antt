@@ -8,8 +8,7 @@ use native.Mathlib.Omega.{arith}
 use lib.ListN.{length, getD}
 use Rattle.model.specs.Limits.{maxBlocks}
 use Rattle.model.specs.Table.{Shape, Table, interval, table, sizes}
-use Rattle.model.specs.Expansion.{newTops, has, pieces}
-use Rattle.model.proofs.Filled.{lengthTo}
+use Rattle.model.specs.Expansion.{newTops, has, lengthTo, pieces}
 use Rattle.model.specs.Lent.{lent}
 use Rattle.drain.specs.Stored.{Room, Stored}
 use Rattle.expansion.proofs.Filling.{piece-most}

@@ -39,7 +39,7 @@ refused-table-requires-2 c κs = search needs
 returns-2 : tie.Need-returns-2
 returns-2 c =
     grow-same _ _ _ _ _ _ (c .refused-table2 .ensures)
-    (grow-full _ _ _ _ (c .before .before .before .before .before .before .before .before .before .before .before .growth-refusal .ensures) (c .before .before .before .before .before .before .before .before .before .before .if1 .left) (omega (arith, c .before .before .before .measure .ensures .0)))
+    (grow-full _ _ _ _ (c .before .before .before .before .before .before .before .before .before .before .before .growth-refusal .ensures) (c .before .before .before .before .before .before .before .before .before .before .if1 .left) (omega (arith, c .before .before .before .measure .ensures .intervals)))
 
 blocks-after-requires : tie.Need-blocks-after-requires
 blocks-after-requires c κs = c .before .before .before .before .before .before .before .before .before .before .before .before .before .before .before .before .before .before .before .pre .0
@@ -52,7 +52,7 @@ write-expanded-requires c κs =
         sym (c .before .before .before .before .before .before .before .before .before .before .before .before .before .before .before .before .before .growth-refusal .ensures) ∙ c .before .before .before .before .before .before .before .before .before .before .before .before .before .before .before .before .if1 .left,
         (
           c .before .before .before .before .before .before .before .before .before .before .before .before .before .before .dues-before .ensures,
-          (c .before .before .before .before .before .before .before .before .before .before .before .before .dues-after .ensures, (room, omega (arith, c .before .before .before .before .before .before .before .before .before .measure .ensures .0))),
+          (c .before .before .before .before .before .before .before .before .before .before .before .before .dues-after .ensures, (room, omega (arith, c .before .before .before .before .before .before .before .before .before .measure .ensures .intervals))),
         ),
       ),
     )
@@ -71,11 +71,21 @@ same-length-4 c = search needs
 
 returns-3 : tie.Need-returns-3
 returns-3 c =
-    grow-accepted _ _ _ _ (c .before .before .before .before .before .before .before .before .before .before .before .before .before .before .before .before .before .before .before .before .before .before .before .before .before .before .growth-refusal .ensures) _ _ _ _ (c .before .before .before .before .before .before .before .before .before .before .before .before .before .before .before .before .before .before .before .before .before .before .before .before .before .if1 .left) (c .before .before .before .before .before .before .before .before .before .before .before .before .before .before .before .before .if2 .left)
-    (c .before .before .before .before .before .before .before .before .before .before .before .before .before .before .before .blocks-after .ensures)
-    (c .before .before .before .before .before .before .before .before .before .before .before .before .before .before .before .before .before .before .measure .ensures .0)
-    (c .before .before .before .before .before .before .before .before .before .before .before .before .before .before .before .before .before .before .measure .ensures .1)
-    (c .before .before .before .before .before .before .before .before .write-expanded .ensures)
+    let stored = c .before .before .before .before .before .before .before .before in
+    let blocks = stored .before .before .before .before .before .before .before in
+    let few = blocks .before in
+    let counting = few .before .before in
+    let asked = counting .before .before .before .before .before .before .before in
+    let counted = counting .measure .ensures in
+    grow-accepted _ _ _ _ (asked .before .growth-refusal .ensures) _ _ (asked .if1 .left)
+    (omega (arith, few .if2 .left, counted .intervals))
+    (omega arith)
+    (omega arith)
+    (omega (arith, blocks .blocks-after .ensures))
+    (omega (arith, counted .intervals))
+    (omega (arith, counted .moved))
+    (omega (arith, counted .least))
+    (stored .write-expanded .ensures)
 
 pub grown-spec : {M : Type 1} → statement M
 grown-spec =

@@ -25,10 +25,12 @@ same-length c = search needs
 
 returns-3 : tie.Need-returns-3
 returns-3 c =
-    moves-accepted _ _ _ _ _ (c .before .before .before .before .before .before .before .growth-refusal .ensures) _ _ _ (c .before .before .before .before .before .before .if1 .left) (omega arith)
-    (c .before .before .write-relocations .ensures .0)
-    (c .before .before .before .before .before .relocation-count .ensures)
-    (c .before .before .write-relocations .ensures .1)
+    let asked = c .before .before .before .before .before .before .before .growth-refusal .ensures in
+    let listed = c .before .before .write-relocations .ensures in
+    moves-accepted _ _ _ _ _ asked _ _ _ (c .before .before .before .before .before .before .if1 .left) (omega arith)
+    (omega (arith, listed .0))
+    (omega (arith, c .before .before .before .before .before .relocation-count .ensures))
+    (listed .1)
 
 pub relocated-spec : {M : Type 1} → statement M
 relocated-spec =

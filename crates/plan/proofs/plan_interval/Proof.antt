@@ -1,5 +1,6 @@
 -- `plan::plan_interval` meets its contract: one return for each action. Assumes nothing.
 use mathlib.Core.Path.{sym}
+use native.Mathlib.Omega.{arith}
 use Rattle.model.specs.Table.{interval}
 use Rattle.model.proofs.Drained.{plan-stay, plan-move, plan-split}
 use borrow.Author.Needs.{needs}
@@ -10,7 +11,7 @@ sub-if1 : tie.Need-sub-if1
 sub-if1 c = search needs
 
 returns : tie.Need-returns
-returns c b = sym (plan-stay _ _ (interval _ b _) _ (c .if1 .taken))
+returns c b = sym (plan-stay _ _ (interval _ b _) _ (omega (arith, c .if1 .taken)))
 
 sub-if2 : tie.Need-sub-if2
 sub-if2 c = search needs

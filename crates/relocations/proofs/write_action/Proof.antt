@@ -1,6 +1,6 @@
 -- `relocations::write_action` meets its contract: the rows of the part that moves, if one does. Assumes nothing.
 use mathlib.Core.Path.{_∙_}
-use Rattle.relocations.proofs.Actions.{moves-part, splits-part, stays-rows, moves-rows, splits-rows}
+use Rattle.relocations.proofs.Actions.{rows-stay, paged-none, moves-part, moves-rows, splits-part, splits-rows}
 use borrow.Author.Needs.{needs}
 use Rattle.relocations.proofs.write_action.Statement.{statement}
 use Rattle.relocations.proofs.write_action.Tie as tie
@@ -14,10 +14,11 @@ enum-known-action c = search needs
 write-part-requires : tie.Need-write-part-requires
 write-part-requires c κs =
     let start = c .before .before .before .before .before in
-    moves-part (start .args .action) (start .args .start) (start .args .end) (start .args .old) (start .args .first-bin) (start .args .bins) (start .args .moved)
+    moves-part (start .args .action) (start .args .start) (start .args .end) (start .args .old) (start .args .first-bin) (start .args .bins)
+    (start .args .moved)
+    (start .pre)
     _
     (c .before .before .action .given .1)
-    (start .pre)
 
 enum-known-action-2 : tie.Need-enum-known-action-2
 enum-known-action-2 c = search needs
@@ -25,48 +26,53 @@ enum-known-action-2 c = search needs
 write-part-requires-2 : tie.Need-write-part-requires-2
 write-part-requires-2 c κs =
     let start = c .before .before .before .before .before in
-    splits-part (start .args .action) (start .args .start) (start .args .end) (start .args .old) (start .args .first-bin) (start .args .bins) (start .args .moved)
+    splits-part (start .args .action) (start .args .start) (start .args .end) (start .args .old) (start .args .first-bin) (start .args .bins)
+    (start .args .moved)
+    (start .pre)
     _
     _
     (c .before .before .action2 .given .1)
-    (start .pre)
 
 returns : tie.Need-returns
-returns c =
+returns c b g l =
     let start = c .before .before .before in
-    stays-rows (start .args .action) (start .args .start) (start .args .end) (start .args .old) (start .args .first-bin) (start .args .bins) (start .args .moved)
-    (start .args .first)
-    (start .args .rows .now)
-    (c .enum-told .given .1)
+    rw
+    (rows-stay (start .args .action) (start .args .start) (start .args .end) (start .args .old) (start .args .first-bin) (start .args .bins)
+    b g l (c .enum-told .given .1))
+    (paged-none (start .args .first) (start .args .moved) (start .args .rows .now))
 
 same-length : tie.Need-same-length
 same-length c = search needs
 
 returns-2 : tie.Need-returns-2
-returns-2 c =
+returns-2 c b g l =
     let start = c .before .before .before .before .before .before .before .before in
     c .before .before .write-part .ensures
-    ∙ moves-rows (start .args .action) (start .args .start) (start .args .end) (start .args .old) (start .args .first-bin) (start .args .bins) (start .args .moved)
-    (start .args .first)
-    (start .args .rows .now)
+    ∙ moves-rows (start .args .action) (start .args .start) (start .args .end) (start .args .old) (start .args .first-bin) (start .args .bins)
+    (start .args .moved)
+    (start .pre)
     _
     (c .before .before .before .before .before .action .given .1)
-    (start .pre)
+    (start .args .first)
+    (start .args .rows .now)
+    b g l
 
 same-length-2 : tie.Need-same-length-2
 same-length-2 c = search needs
 
 returns-3 : tie.Need-returns-3
-returns-3 c =
+returns-3 c b g l =
     let start = c .before .before .before .before .before .before .before .before in
     c .before .before .write-part2 .ensures
-    ∙ splits-rows (start .args .action) (start .args .start) (start .args .end) (start .args .old) (start .args .first-bin) (start .args .bins) (start .args .moved)
-    (start .args .first)
-    (start .args .rows .now)
+    ∙ splits-rows (start .args .action) (start .args .start) (start .args .end) (start .args .old) (start .args .first-bin) (start .args .bins)
+    (start .args .moved)
+    (start .pre)
     _
     _
     (c .before .before .before .before .before .action2 .given .1)
-    (start .pre)
+    (start .args .first)
+    (start .args .rows .now)
+    b g l
 
 pub write-action-spec : {M : Type 1} → statement M
 write-action-spec =

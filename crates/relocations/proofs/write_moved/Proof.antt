@@ -11,7 +11,7 @@ use Rattle.relocations.proofs.Walking.{
   walking-length,
   walking-full,
   walking-ends,
-  walking-acts,
+  walking-parts,
   walking-more,
 }
 use Rattle.relocations.proofs.write_moved.Statement.{statement}
@@ -123,7 +123,7 @@ write-action-requires : tie.Need-write-action-requires Inv-loop μ-loop
 write-action-requires c κs =
     let start = c .before .before .before .before .before .before .before .before .before .before .before .before .before .before .before .before .before in
     let at = c .before .before .before .before .before .before .before .before .before .before .loop in
-    walking-acts (start .args .h) (lists start) (asked start) (start .pre .0) (start .pre .1 .0) (start .pre .1 .1 .0)
+    walking-parts (start .args .h) (lists start) (asked start) (start .pre .0) (start .pre .1 .0) (start .pre .1 .1 .0)
     (start .args .first)
     (start .args .rows .now)
     (at .rows)

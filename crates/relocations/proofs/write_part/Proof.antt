@@ -2,7 +2,7 @@
 use Prim.Native.Nat.{_+_}
 use mathlib.Core.Path.{_∙_}
 use native.Mathlib.Omega.{arith}
-use Rattle.relocations.proofs.Spans.{places-more, room-fits, paged-past, paged-full, paged-left, paged-room}
+use Rattle.relocations.proofs.Spans.{places-later, room-fits, paged-past, paged-full, paged-left, paged-room}
 use borrow.Author.Needs.{needs}
 use Rattle.relocations.proofs.write_part.Statement.{statement}
 use Rattle.relocations.proofs.write_part.Tie as tie
@@ -71,7 +71,7 @@ write-span-requires-2 : tie.Need-write-span-requires-2
 write-span-requires-2 c κs =
     let start = c .before .before .before .before .before .before .before .before in
     let skip = c .before .before .before .before .before .excess .result in (
-      (places-more _ (start .args .bucket) skip (start .pre .oldPlaces), places-more _ (start .args .bucket) skip (start .pre .newPlaces)),
+      (places-later _ _ _ (omega arith) (start .pre .oldPlaces), places-later _ _ _ (omega arith) (start .pre .newPlaces)),
       room-fits _ (c .before .before .before .before .excess2 .result) (start .args .bucket + skip) (c .before .before .if2 .left),
     )
 

@@ -3,7 +3,7 @@ use Prim.Native.Nat.{_-_}
 use native.Mathlib.Nat.{lt-of-le-of-lt}
 use native.Mathlib.Omega.{arith}
 use borrow.Author.Count.{falls}
-use Rattle.relocations.proofs.Spans.{slot-next, Spanning, spanning-room, spanning-starts, spanning-length, spanning-more, spanning-ends}
+use Rattle.relocations.proofs.Spans.{places-later, slot-next, Spanning, spanning-room, spanning-starts, spanning-length, spanning-more, spanning-ends}
 use Rattle.relocations.proofs.write_span.Statement.{statement}
 use Rattle.relocations.proofs.write_span.Tie as tie
 
@@ -28,10 +28,10 @@ sub-new-last : tie.Need-sub-new-last Inv-loop μ-loop
 sub-new-last c = omega (arith, c .before .before .before .pre .0 .1 .some)
 
 slot-of-requires : tie.Need-slot-of-requires Inv-loop μ-loop
-slot-of-requires c κs = c .before .before .before .pre .0 .0
+slot-of-requires c κs = places-later _ _ _ (omega arith) (c .before .before .before .pre .0 .0)
 
 slot-of-requires-2 : tie.Need-slot-of-requires-2 Inv-loop μ-loop
-slot-of-requires-2 c κs = c .before .before .before .before .pre .0 .1
+slot-of-requires-2 c κs = places-later _ _ _ (omega arith) (c .before .before .before .before .pre .0 .1)
 
 mul-entry : tie.Need-mul-entry Inv-loop μ-loop
 mul-entry c = omega (arith, c .before .before .before .before .before .pre)
