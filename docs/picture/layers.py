@@ -123,21 +123,16 @@ def width(place):
 
 def spread(row, wanted):
     """Places of a row in its order and without overlap, as near as can be to those wanted."""
-    shift, groups = 0, []
-    for i, place in enumerate(row):
-        if i > 0:
-            shift += (width(row[i - 1]) + width(place)) / 2 + GAP
+    shifts, groups = [0], []  # a group: the place that is best for all in it, and how many
+    for left, right in zip(row, row[1:]):
+        shifts.append(shifts[-1] + (width(left) + width(right)) / 2 + GAP)
+    for place, shift in zip(row, shifts):
         groups.append([wanted[place] - shift, 1])
         while len(groups) > 1 and groups[-2][0] >= groups[-1][0]:
-            mean, count = groups.pop()
-            groups[-1] = [(groups[-1][0] * groups[-1][1] + mean * count) / (groups[-1][1] + count), groups[-1][1] + count]
-    even = [mean for mean, count in groups for _ in range(count)]
-    at, shift = {}, 0
-    for i, place in enumerate(row):
-        if i > 0:
-            shift += (width(row[i - 1]) + width(place)) / 2 + GAP
-        at[place] = even[i] + shift
-    return at
+            (mean, many), (last, more) = groups.pop(-2), groups.pop()
+            groups.append([(mean * many + last * more) / (many + more), many + more])
+    even = [mean for mean, many in groups for _ in range(many)]
+    return {place: mean + shift for place, mean, shift in zip(row, even, shifts)}
 
 
 def placed(rows, pairs):
