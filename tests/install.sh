@@ -17,7 +17,7 @@ unset MAKEFLAGS BINDIR LIBDIR INCLUDEDIR MANDIR
 
 # make with the goal $1, for the two installations: at a place of its own, and staged for another
 at_place() { make -s "$1" PREFIX="$place" DESTDIR= ARCHIVE="${ARCHIVE:-target/c/libirr.a}"; }
-at_stage() { make -s "$1" PREFIX=/opt/irr DESTDIR="$stage" ARCHIVE="${ARCHIVE:-target/c/libirr.a}"; }
+at_stage() { make -s "$1" PREFIX=/nowhere DESTDIR="$stage" ARCHIVE="${ARCHIVE:-target/c/libirr.a}"; }
 
 # the files below a folder, all of them, are those that are named in the Makefile
 files() {
@@ -28,8 +28,8 @@ found() { (cd "$1" && find . -type f | sed 's/^\.\///' | LC_ALL=C sort) > "$work
 
 installed() { at_place install && found "$place" && files; }
 staged() {
-    at_stage install && found "$stage/opt/irr" && files &&
-        grep -qx 'prefix=/opt/irr' "$stage/opt/irr/lib/pkgconfig/irr.pc" && ! grep -rq "$work" "$stage"
+    at_stage install && found "$stage/nowhere" && files &&
+        grep -qx 'prefix=/nowhere' "$stage/nowhere/lib/pkgconfig/irr.pc" && ! grep -rq "$work" "$stage"
 }
 
 # a program compiled by what pkg-config says of the installation
