@@ -4,7 +4,7 @@
 #
 #   bench/calls.sh [archive [runs]]
 #
-# The archive is target/staticlib/libcapi.a of this repository unless another is named; each
+# The archive is target/c/libirr.a of this repository (`make archive`) unless another is named; each
 # measurement is the best of 21 runs unless another number is given.
 # Ends with 1 if an answer differs, with 2 if it can't compare. A slow call is no failure.
 set -eu
@@ -15,7 +15,7 @@ fail() {
 }
 
 here=$(CDPATH='' cd -- "$(dirname -- "$0")" && pwd)
-archive=${1:-$here/../target/staticlib/libcapi.a}
+archive=${1:-$here/../target/c/libirr.a}
 runs=${2:-21}
 [ -f "$archive" ] || fail "no archive $archive; build it, or name another"
 

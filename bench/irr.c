@@ -1,76 +1,19 @@
 /* The nine calls of the placement map in plain C: what the proved calls are measured
- * against. Same arguments, same replies, same refusals in the same order.
- *
- * Document 01's drawer, group and run are called bin, block and interval here, after
- * source 000. Numbers in comments are its refusals. On a table that has passed the
- * check all sizes, ranks and sums stay below 2^32.
+ * against. Same arguments, same replies, same refusals in the same order. What they do
+ * with a table that has passed the check is in method.h.
  */
+#include "method.h"
 #include "plain.h"
-
-#include <stdbool.h>
-#include <string.h>
 
 _Static_assert(__BYTE_ORDER__ == __ORDER_LITTLE_ENDIAN__, "a saved number is copied as it is");
 
-enum {
-	MAX_BUCKETS = 1000000000,
-	MAX_BINS = 65535,
-	MAX_BLOCKS = 65,
-	MAX_INTERVALS = 2081,
-	MAX_EXPANSIONS = 64,
-	ROW = 5 /* numbers of a row of the move list */
-};
-
-/* A lent table. */
-struct table {
-	struct irr_header header;
-	const uint32_t *tops, *ends, *blocks, *adjustments;
-};
-
-/* The arrays that a new table is written to. */
-struct new_table {
-	uint32_t *restrict tops, *restrict ends, *restrict blocks, *restrict adjustments;
-	uint32_t intervals;
-};
-
-static inline uint32_t min(uint32_t a, uint32_t b)
-{
-	return a < b ? a : b;
-}
-
-static inline uint32_t bins_of(const struct table *t)
-{
-	return t->tops[t->header.block_count - 1];
-}
-
-/* The first bin of a block. */
-static inline uint32_t first_bin(const struct table *t, uint32_t block)
-{
-	return block == 0 ? 0 : t->tops[block - 1];
-}
-
-static inline void add_interval(struct new_table *new, uint32_t end, uint32_t block,
-				uint32_t adjustment)
-{
-	uint32_t i = new->intervals++;
-
-	new->ends[i] = end;
-	new->blocks[i] = block;
-	new->adjustments[i] = adjustment;
-}
-
 /* ----------------------------------------------------------------- refusals */
-
-static inline bool outside(uint32_t limit, uint32_t x)
-{
-	return x == 0 || x > limit;
-}
 
 /* 11: B, G or k outside its limits. */
 static bool header_wrong(struct irr_header h)
 {
-	return outside(MAX_BUCKETS, h.buckets) || outside(MAX_BLOCKS, h.block_count) ||
-	       outside(MAX_INTERVALS, h.interval_count);
+	return outside(IRR_MAX_BUCKETS, h.buckets) || outside(IRR_MAX_BLOCKS, h.block_count) ||
+	       outside(IRR_MAX_INTERVALS, h.interval_count);
 }
 
 /* Whether the first entries rise strictly from above 0. */
@@ -96,7 +39,7 @@ static bool blocks_wrong(const struct table *t)
 }
 
 /* 15: a block whose intervals hold another number than its due. */
-static bool holdings_wrong(const struct table *t, const uint32_t sums[MAX_BLOCKS])
+static bool holdings_wrong(const struct table *t, const uint32_t sums[IRR_MAX_BLOCKS])
 {
 	uint32_t each = t->header.buckets / bins_of(t);
 	uint32_t extra = t->header.buckets % bins_of(t); /* bins below it are due one more */
@@ -117,7 +60,8 @@ static uint32_t order_refusal(const struct table *t)
 {
 	struct irr_header h = t->header;
 
-	if (!rising(t->tops, h.block_count) || bins_of(t) > MAX_BINS || bins_of(t) > h.buckets)
+	if (!rising(t->tops, h.block_count) || bins_of(t) > IRR_MAX_BINS ||
+	    bins_of(t) > h.buckets)
 		return 12;
 	if (!rising(t->ends, h.interval_count) || t->ends[h.interval_count - 1] != h.buckets)
 		return 13;
@@ -128,7 +72,7 @@ static uint32_t order_refusal(const struct table *t)
  * the interval's adjustment, and what it holds at the end has to be its due. */
 static uint32_t sums_refusal(const struct table *t)
 {
-	uint32_t sums[MAX_BLOCKS];
+	uint32_t sums[IRR_MAX_BLOCKS];
 	uint32_t start = 0;
 	bool adjusted = true;
 
@@ -165,185 +109,8 @@ static uint32_t check(const struct table *t, size_t tops_length, size_t ends_len
 static bool room_short(size_t tops_length, size_t ends_length, size_t blocks_length,
 		       size_t adjustments_length)
 {
-	return tops_length < MAX_BLOCKS || ends_length < MAX_INTERVALS ||
-	       blocks_length < MAX_INTERVALS || adjustments_length < MAX_INTERVALS;
-}
-
-/* The refusal of the sizes of a map: 1, 2, or 0. */
-static uint32_t size_refusal(uint32_t buckets, uint32_t bins)
-{
-	if (outside(MAX_BUCKETS, buckets) || outside(MAX_BINS, bins))
-		return 1;
-	return bins > buckets ? 2 : 0;
-}
-
-/* The refusal of the sizes of a growth: 1 to 5, or 0. */
-static uint32_t growth_refusal(const struct table *old, uint32_t buckets, uint32_t bins)
-{
-	uint32_t refusal = size_refusal(buckets, bins);
-
-	if (refusal != 0)
-		return refusal;
-	if (buckets < old->header.buckets || bins < bins_of(old))
-		return 3;
-	if (buckets == old->header.buckets && bins == bins_of(old))
-		return 4;
-	if (bins > bins_of(old) && old->header.block_count == MAX_BLOCKS)
-		return 5;
-	return 0;
-}
-
-/* ------------------------------------------------------------------- growth */
-
-/* What each block of t is due in a map of the given sizes, of which the blocks of t are
- * the first ones. Returns the sum. */
-static uint32_t due_sizes(const struct table *t, uint32_t buckets, uint32_t bins,
-			  uint32_t due[MAX_BLOCKS])
-{
-	uint32_t each = buckets / bins;
-	uint32_t extra = buckets % bins;
-	uint32_t below = 0;
-
-	for (uint32_t j = 0; j < t->header.block_count; j++) {
-		uint32_t through = t->tops[j] * each + min(t->tops[j], extra);
-
-		due[j] = through - below;
-		below = through;
-	}
-	return below;
-}
-
-/* Where interval i of a map that drains is cut: the buckets from `start` up to the cut
- * stay, those from the cut to the end move. A cut at the end means that the interval
- * stays, a cut at the start that it moves whole. */
-static inline uint32_t cut_of(const struct table *t, const uint32_t due[], uint32_t i,
-			      uint32_t start)
-{
-	uint32_t cut = due[t->blocks[i]] + t->adjustments[i];
-
-	if (cut < start)
-		return start;
-	return min(cut, t->ends[i]);
-}
-
-/* The number of intervals that `drain` writes. */
-static uint32_t count_drained(const struct table *old, uint32_t buckets, const uint32_t due[])
-{
-	uint32_t count = old->header.interval_count;
-	uint32_t start = 0, cut = 0;
-
-	for (uint32_t i = 0; i < old->header.interval_count; i++) {
-		cut = cut_of(old, due, i, start);
-		count += start < cut && cut < old->ends[i];
-		start = old->ends[i];
-	}
-	return count + (cut == old->header.buckets && buckets > old->header.buckets);
-}
-
-/* Some old block is due less than it has: what is above its due goes to the new block,
- * and so do the new buckets. */
-static void drain(const struct table *old, uint32_t buckets, const uint32_t due[],
-		  struct new_table *new)
-{
-	struct irr_header h = old->header;
-	uint32_t start = 0, cut = 0, moved = 0;
-
-	for (uint32_t i = 0; i < h.interval_count; i++) {
-		uint32_t end = old->ends[i];
-
-		cut = cut_of(old, due, i, start);
-		if (start < cut)
-			add_interval(new, cut, old->blocks[i], old->adjustments[i]);
-		if (cut < end) {
-			add_interval(new, end, h.block_count, cut - moved);
-			moved += end - cut;
-		}
-		start = end;
-	}
-	if (cut < h.buckets)
-		new->ends[new->intervals - 1] = buckets;
-	else if (buckets > h.buckets)
-		add_interval(new, buckets, h.block_count, h.buckets - moved);
-}
-
-/* The number of intervals that `fill` writes. */
-static uint32_t count_filled(const struct table *old, uint32_t bins, const uint32_t had[],
-			     const uint32_t due[])
-{
-	uint32_t last = old->blocks[old->header.interval_count - 1];
-	uint32_t count = old->header.interval_count + (bins > bins_of(old));
-
-	for (uint32_t j = 0; j < old->header.block_count; j++)
-		count += j != last && due[j] > had[j];
-	return count;
-}
-
-/* No old block is due less than it has: all old buckets stay, and the new ones are handed
- * out block by block, the last interval's block first. */
-static void fill(const struct table *old, uint32_t buckets, uint32_t bins,
-		 const uint32_t had[], const uint32_t due[], struct new_table *new)
-{
-	uint32_t k = old->header.interval_count;
-	uint32_t last = old->blocks[k - 1];
-	uint32_t next = old->header.buckets + due[last] - had[last];
-
-	memcpy(new->ends, old->ends, k * sizeof *old->ends);
-	memcpy(new->blocks, old->blocks, k * sizeof *old->blocks);
-	memcpy(new->adjustments, old->adjustments, k * sizeof *old->adjustments);
-	new->intervals = k;
-	new->ends[k - 1] = next;
-
-	for (uint32_t j = 0; j < old->header.block_count; j++) {
-		if (j != last && due[j] > had[j]) {
-			uint32_t end = next + due[j] - had[j];
-
-			add_interval(new, end, j, next - had[j]);
-			next = end;
-		}
-	}
-	if (bins > bins_of(old))
-		add_interval(new, buckets, old->header.block_count, next);
-}
-
-static struct irr_table_reply refused_table(uint32_t refusal)
-{
-	return (struct irr_table_reply){.refusal = refusal};
-}
-
-/* A growth of a sound table into arrays with room for any table. */
-static struct irr_table_reply grow(const struct table *old, uint32_t buckets, uint32_t bins,
-				   struct new_table *new)
-{
-	struct irr_header h = old->header;
-	uint32_t had[MAX_BLOCKS], due[MAX_BLOCKS];
-	uint32_t refusal = growth_refusal(old, buckets, bins);
-
-	if (refusal != 0)
-		return refused_table(refusal);
-
-	/* The due of a bin never falls in one old block and rises in another, so the sums
-	 * tell whether a block drains. */
-	due_sizes(old, h.buckets, bins_of(old), had);
-	uint32_t most = due_sizes(old, buckets, bins, due);
-	bool drains = most < h.buckets;
-	uint32_t count = drains ? count_drained(old, buckets, due)
-				: count_filled(old, bins, had, due);
-
-	if (count > MAX_INTERVALS)
-		return refused_table(8);
-
-	memcpy(new->tops, old->tops, h.block_count * sizeof *old->tops);
-	if (bins > bins_of(old))
-		new->tops[h.block_count] = bins;
-	if (drains)
-		drain(old, buckets, due, new);
-	else
-		fill(old, buckets, bins, had, due, new);
-
-	return (struct irr_table_reply){
-		.moved = drains ? h.buckets - most : 0,
-		.header = {buckets, h.block_count + (bins > bins_of(old)), count},
-	};
+	return tops_length < IRR_MAX_BLOCKS || ends_length < IRR_MAX_INTERVALS ||
+	       blocks_length < IRR_MAX_INTERVALS || adjustments_length < IRR_MAX_INTERVALS;
 }
 
 /* ---------------------------------------------------------------- move list */
@@ -361,7 +128,7 @@ static void write_rows(const struct table *old, uint32_t i, uint32_t bucket, uin
 	uint32_t new_bin = new_first + order % (new_top - new_first);
 	uint32_t new_position = order / (new_top - new_first);
 
-	for (; bucket < end; bucket++, row += ROW) {
+	for (; bucket < end; bucket++, row += IRR_ROW) {
 		row[0] = bucket;
 		row[1] = bin;
 		row[2] = position;
@@ -399,7 +166,7 @@ static void list_moves(const struct table *old, uint32_t bins, const uint32_t du
 			uint32_t here = min(next - (first + written), count - written);
 
 			write_rows(old, i, cut + skip, cut + skip + here, first + written, bins,
-				   rows + (size_t)ROW * written);
+				   rows + (size_t)IRR_ROW * written);
 			written += here;
 		}
 		order = next;
@@ -415,19 +182,11 @@ plain_initial(uint32_t buckets, uint32_t bins,
 	      uint32_t *blocks, size_t blocks_length,
 	      uint32_t *adjustments, size_t adjustments_length)
 {
-	uint32_t refusal;
+	struct new_table new = {tops, ends, blocks, adjustments, 0};
 
 	if (room_short(tops_length, ends_length, blocks_length, adjustments_length))
 		return refused_table(21);
-	refusal = size_refusal(buckets, bins);
-	if (refusal != 0)
-		return refused_table(refusal);
-
-	tops[0] = bins;
-	ends[0] = buckets;
-	blocks[0] = 0;
-	adjustments[0] = 0;
-	return (struct irr_table_reply){.header = {buckets, 1, 1}};
+	return initial(buckets, bins, &new);
 }
 
 struct irr_table_reply
@@ -451,7 +210,7 @@ plain_expand(struct irr_header header,
 	refusal = check(&t, tops_length, ends_length, blocks_length, adjustments_length);
 	if (refusal != 0)
 		return refused_table(refusal);
-	return grow(&t, buckets, bins, &new);
+	return grown(&t, buckets, bins, &new);
 }
 
 struct irr_relocations_reply
@@ -465,8 +224,8 @@ plain_relocations(struct irr_header header,
 {
 	struct table t = {header, tops, ends, blocks, adjustments};
 	uint32_t refusal = check(&t, tops_length, ends_length, blocks_length, adjustments_length);
-	uint32_t due[MAX_BLOCKS];
-	size_t room = rows_length / ROW;
+	uint32_t due[IRR_MAX_BLOCKS];
+	size_t room = rows_length / IRR_ROW;
 
 	if (refusal == 0)
 		refusal = growth_refusal(&t, buckets, bins);
@@ -485,22 +244,6 @@ plain_relocations(struct irr_header header,
 	return (struct irr_relocations_reply){0, count, total};
 }
 
-/* The interval of a bucket: the first whose end is above it. A search without a branch on
- * the data, since the outcome of a step can't be predicted. */
-static uint32_t interval_of(const struct table *t, uint32_t bucket)
-{
-	const uint32_t *base = t->ends;
-	uint32_t length = t->header.interval_count;
-
-	while (length > 1) {
-		uint32_t half = length / 2;
-
-		base += (base[half - 1] <= bucket) * half;
-		length -= half;
-	}
-	return (uint32_t)(base - t->ends);
-}
-
 struct irr_place_reply
 plain_place(struct irr_header header,
 	    const uint32_t *tops, size_t tops_length, const uint32_t *ends, size_t ends_length,
@@ -512,23 +255,7 @@ plain_place(struct irr_header header,
 
 	if (refusal != 0)
 		return (struct irr_place_reply){.refusal = refusal};
-	if (bucket >= header.buckets)
-		return (struct irr_place_reply){.refusal = 6};
-
-	uint32_t i = interval_of(&t, bucket);
-	uint32_t rank = bucket - adjustments[i];
-	uint32_t first = first_bin(&t, blocks[i]);
-	uint32_t size = tops[blocks[i]] - first;
-
-	return (struct irr_place_reply){0, first + rank % size, rank / size};
-}
-
-/* The number of buckets in a bin below n: its due size. */
-static uint32_t size_of_bin(const struct table *t, uint32_t bin)
-{
-	uint32_t bins = bins_of(t);
-
-	return t->header.buckets / bins + (bin < t->header.buckets % bins);
+	return placed(&t, bucket);
 }
 
 struct irr_find_reply
@@ -543,22 +270,7 @@ plain_find(struct irr_header header,
 
 	if (refusal != 0)
 		return (struct irr_find_reply){.refusal = refusal};
-	if (bin >= bins_of(&t) || position >= size_of_bin(&t, bin))
-		return (struct irr_find_reply){.refusal = 7};
-
-	uint32_t block = 0;
-	while (bin >= tops[block])
-		block++;
-
-	uint32_t first = first_bin(&t, block);
-	uint32_t rank = position * (tops[block] - first) + (bin - first);
-
-	/* Ranks of a block rise from the left, and the position is one that the bin has, so
-	 * the loop ends at the interval that holds the rank. */
-	uint32_t i = 0;
-	while (blocks[i] != block || rank + adjustments[i] >= ends[i])
-		i++;
-	return (struct irr_find_reply){0, rank + adjustments[i]};
+	return found(&t, bin, position);
 }
 
 struct irr_bin_size_reply
@@ -581,7 +293,7 @@ plain_bin_size(struct irr_header header,
 struct irr_room_reply
 plain_room(uint32_t expansions)
 {
-	if (expansions > MAX_EXPANSIONS)
+	if (expansions > IRR_MAX_EXPANSIONS)
 		return (struct irr_room_reply){.refusal = 9};
 	return (struct irr_room_reply){0, expansions * (expansions + 1) / 2 + 1};
 }
@@ -650,7 +362,7 @@ static const uint8_t *get_numbers(const uint8_t *restrict from, uint32_t *restri
 /* Works out the adjustments of a table that passes 12 to 14. Returns 15, or 0. */
 static uint32_t adjust(const struct table *t, uint32_t *restrict adjustments)
 {
-	uint32_t sums[MAX_BLOCKS];
+	uint32_t sums[IRR_MAX_BLOCKS];
 	uint32_t start = 0;
 
 	memset(sums, 0, t->header.block_count * sizeof *sums);
@@ -677,8 +389,9 @@ plain_load(const uint8_t *bytes, size_t bytes_length,
 	   uint32_t *blocks, size_t blocks_length,
 	   uint32_t *adjustments, size_t adjustments_length)
 {
-	uint32_t top[MAX_BLOCKS];
-	uint32_t end[MAX_INTERVALS], block[MAX_INTERVALS], adjustment[MAX_INTERVALS];
+	uint32_t top[IRR_MAX_BLOCKS];
+	uint32_t end[IRR_MAX_INTERVALS], block[IRR_MAX_INTERVALS];
+	uint32_t adjustment[IRR_MAX_INTERVALS];
 	uint32_t refusal;
 
 	if (room_short(tops_length, ends_length, blocks_length, adjustments_length))

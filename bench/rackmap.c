@@ -1,24 +1,15 @@
 /* The program rackmap of document 01 in plain C: the baseline that the proved
  * program is measured against. Same lines, same replies, same method.
  *
- * It trusts the tables that it writes itself, and nothing of its input.
- *
- * Document 01's drawer, group and run are called bin, block and interval here,
- * after source 000. All sizes, ranks and sums stay below 2^32: a sum has at
- * most two terms of at most 1,000,000,000 each.
+ * It trusts the tables that it writes itself, and nothing of its input. The
+ * method is in method.h.
  */
 #include <errno.h>
-#include <stdbool.h>
-#include <stddef.h>
-#include <stdint.h>
-#include <string.h>
 #include <unistd.h>
 
+#include "method.h"
+
 enum {
-	MAX_BUCKETS = 1000000000,
-	MAX_BINS = 65535,
-	MAX_BLOCKS = 65,
-	MAX_INTERVALS = 2081,
 	MAX_LINE = 64,       /* bytes of a line, the line feed not counted */
 	INPUT_BLOCK = 65536, /* bytes asked for by one read */
 	OUTPUT_BLOCK = 65536,
@@ -117,294 +108,87 @@ static void refuse(uint32_t number)
 
 /* ------------------------------------------------------------------ tables */
 
-/* Block j has the bins edge[j] to edge[j + 1] - 1, so edge[j + 1] is its top.
- * Interval i has the buckets from the end before it (0 for the first) to
- * end[i] - 1. A bucket's rank in its block is the bucket minus adjustment[i]. */
-struct table {
-	uint32_t buckets;
-	uint32_t blocks;
-	uint32_t intervals;
-	uint32_t edge[1 + MAX_BLOCKS];
-	uint32_t end[MAX_INTERVALS];
-	uint32_t block[MAX_INTERVALS];
-	uint32_t adjustment[MAX_INTERVALS];
+/* A table in memory of its own. */
+struct map {
+	struct irr_header header;
+	uint32_t tops[IRR_MAX_BLOCKS];
+	uint32_t ends[IRR_MAX_INTERVALS];
+	uint32_t blocks[IRR_MAX_INTERVALS];
+	uint32_t adjustments[IRR_MAX_INTERVALS];
 };
 
-static struct table tables[2];
-static struct table *map = &tables[0];    /* the present map */
-static struct table *before = &tables[1]; /* the map before its latest growth */
+static struct map maps[2];
+static struct map *map = &maps[0];    /* the present map */
+static struct map *before = &maps[1]; /* the map before its latest growth */
 static bool has_map;
 static bool has_before;
 
-static inline uint32_t bins_of(const struct table *t)
+static inline struct table to_read(const struct map *m)
 {
-	return t->edge[t->blocks];
+	return (struct table){m->header, m->tops, m->ends, m->blocks, m->adjustments};
 }
 
-static inline uint32_t min(uint32_t a, uint32_t b)
+static inline struct new_table to_write(struct map *m)
 {
-	return a < b ? a : b;
-}
-
-/* How many buckets each block of t is due in a map of the given sizes. The
- * blocks of t are the first ones of that map. Returns the sum. */
-static uint32_t due_sizes(const struct table *t, uint32_t buckets, uint32_t bins,
-			  uint32_t due[MAX_BLOCKS])
-{
-	uint32_t each = buckets / bins;
-	uint32_t extra = buckets % bins; /* bins below it are due one more */
-	uint32_t sum = 0;
-
-	for (uint32_t j = 0; j < t->blocks; j++) {
-		uint32_t first = t->edge[j], top = t->edge[j + 1];
-
-		due[j] = (top - first) * each + min(top, extra) - min(first, extra);
-		sum += due[j];
-	}
-	return sum;
-}
-
-static inline void add_interval(struct table *t, uint32_t end, uint32_t block,
-				uint32_t adjustment)
-{
-	uint32_t i = t->intervals++;
-
-	t->end[i] = end;
-	t->block[i] = block;
-	t->adjustment[i] = adjustment;
-}
-
-/* The refusal of the sizes of a map, or 0. */
-static uint32_t refusal_of_sizes(uint32_t buckets, uint32_t bins)
-{
-	if (buckets == 0 || buckets > MAX_BUCKETS || bins == 0 || bins > MAX_BINS)
-		return 1;
-	if (bins > buckets)
-		return 2;
-	return 0;
-}
-
-/* ------------------------------------------------------------------ growth */
-
-/* Where interval i of a map that drains is cut: the buckets from `start` up to
- * the cut stay, those from the cut to the end move. A cut at the end means that
- * the interval stays, a cut at the start that it moves whole. */
-static inline uint32_t cut_of(const struct table *t, const uint32_t due[],
-			      uint32_t i, uint32_t start)
-{
-	uint32_t cut = due[t->block[i]] + t->adjustment[i];
-
-	if (cut < start)
-		return start;
-	return min(cut, t->end[i]);
-}
-
-/* The number of intervals that `drain` writes. */
-static uint32_t count_drained(const struct table *old, uint32_t buckets,
-			      const uint32_t due[])
-{
-	uint32_t count = old->intervals;
-	uint32_t start = 0, cut = 0;
-
-	for (uint32_t i = 0; i < old->intervals; i++) {
-		cut = cut_of(old, due, i, start);
-		count += start < cut && cut < old->end[i];
-		start = old->end[i];
-	}
-	return count + (cut == old->buckets && buckets > old->buckets);
-}
-
-/* Some old block is due less than it has: what is above its due goes to the new
- * block, and so do the new buckets. */
-static void drain(const struct table *old, uint32_t buckets,
-		  const uint32_t due[], struct table *new)
-{
-	uint32_t start = 0, cut = 0, moved = 0;
-
-	for (uint32_t i = 0; i < old->intervals; i++) {
-		uint32_t end = old->end[i];
-
-		cut = cut_of(old, due, i, start);
-		if (start < cut)
-			add_interval(new, cut, old->block[i], old->adjustment[i]);
-		if (cut < end) {
-			add_interval(new, end, old->blocks, cut - moved);
-			moved += end - cut;
-		}
-		start = end;
-	}
-	if (cut < old->buckets)
-		new->end[new->intervals - 1] = buckets;
-	else if (buckets > old->buckets)
-		add_interval(new, buckets, old->blocks, old->buckets - moved);
-}
-
-/* The number of intervals that `fill` writes. */
-static uint32_t count_filled(const struct table *old, uint32_t bins,
-			     const uint32_t had[], const uint32_t due[])
-{
-	uint32_t last = old->block[old->intervals - 1];
-	uint32_t count = old->intervals + (bins > bins_of(old));
-
-	for (uint32_t j = 0; j < old->blocks; j++)
-		count += j != last && due[j] > had[j];
-	return count;
-}
-
-/* No old block is due less than it has: all old buckets stay, and the new ones
- * are handed out block by block, the last interval's block first. */
-static void fill(const struct table *old, uint32_t buckets, uint32_t bins,
-		 const uint32_t had[], const uint32_t due[], struct table *new)
-{
-	uint32_t k = old->intervals;
-	uint32_t last = old->block[k - 1];
-	uint32_t next = old->buckets + due[last] - had[last];
-
-	memcpy(new->end, old->end, k * sizeof old->end[0]);
-	memcpy(new->block, old->block, k * sizeof old->block[0]);
-	memcpy(new->adjustment, old->adjustment, k * sizeof old->adjustment[0]);
-	new->intervals = k;
-	new->end[k - 1] = next;
-
-	for (uint32_t j = 0; j < old->blocks; j++) {
-		if (j != last && due[j] > had[j]) {
-			uint32_t end = next + due[j] - had[j];
-
-			add_interval(new, end, j, next - had[j]);
-			next = end;
-		}
-	}
-	if (bins > bins_of(old))
-		add_interval(new, buckets, old->blocks, next);
+	return (struct new_table){m->tops, m->ends, m->blocks, m->adjustments, 0};
 }
 
 /* ------------------------------------------------------------ the commands */
 
 static void fresh(uint32_t buckets, uint32_t bins)
 {
-	uint32_t refusal = refusal_of_sizes(buckets, bins);
+	struct new_table new = to_write(map);
+	struct irr_table_reply reply = initial(buckets, bins, &new);
 
-	if (refusal != 0) {
-		refuse(refusal);
+	if (reply.refusal != 0) {
+		refuse(reply.refusal);
 		return;
 	}
-	map->buckets = buckets;
-	map->blocks = 1;
-	map->intervals = 0;
-	map->edge[0] = 0;
-	map->edge[1] = bins;
-	add_interval(map, buckets, 0, 0);
+	map->header = reply.header;
 	has_map = true;
 	has_before = false;
 	reply_two("ok ", 0, 1);
 }
 
+/* A refused growth leaves both tables as they are. */
 static void grow(uint32_t buckets, uint32_t bins)
 {
-	const struct table *old = map;
-	struct table *new = before;
-	uint32_t old_bins = bins_of(old);
-	uint32_t had[MAX_BLOCKS], due[MAX_BLOCKS];
-	uint32_t refusal = refusal_of_sizes(buckets, bins);
+	struct map *old = map;
+	struct table t = to_read(old);
+	struct new_table new = to_write(before);
+	struct irr_table_reply reply = grown(&t, buckets, bins, &new);
 
-	if (refusal == 0) {
-		if (buckets < old->buckets || bins < old_bins)
-			refusal = 3;
-		else if (buckets == old->buckets && bins == old_bins)
-			refusal = 4;
-		else if (bins > old_bins && old->blocks == MAX_BLOCKS)
-			refusal = 5;
-	}
-	if (refusal != 0) {
-		refuse(refusal);
+	if (reply.refusal != 0) {
+		refuse(reply.refusal);
 		return;
 	}
-
-	/* The due of a bin never falls in one old block and rises in another, so
-	 * the sums tell whether a block drains. */
-	due_sizes(old, old->buckets, old_bins, had);
-	uint32_t most = due_sizes(old, buckets, bins, due);
-	bool drains = most < old->buckets;
-	uint32_t count = drains ? count_drained(old, buckets, due)
-				: count_filled(old, bins, had, due);
-
-	/* Counted first: a refused growth leaves both tables as they are. */
-	if (count > MAX_INTERVALS) {
-		refuse(8);
-		return;
-	}
-
-	new->buckets = buckets;
-	new->blocks = old->blocks;
-	new->intervals = 0;
-	memcpy(new->edge, old->edge, sizeof old->edge);
-	if (bins > old_bins)
-		new->edge[++new->blocks] = bins;
-	if (drains)
-		drain(old, buckets, due, new);
-	else
-		fill(old, buckets, bins, had, due, new);
-
-	before = map;
-	map = new;
+	map = before;
+	map->header = reply.header;
+	before = old;
 	has_before = true;
-	reply_two("ok ", drains ? before->buckets - most : 0, map->intervals);
-}
-
-/* The interval of a bucket: the first whose end is above it. A search without a
- * branch on the data, since the outcome of a step can't be predicted. */
-static inline uint32_t interval_of(const struct table *t, uint32_t bucket)
-{
-	const uint32_t *base = t->end;
-	uint32_t length = t->intervals;
-
-	while (length > 1) {
-		uint32_t half = length / 2;
-
-		base += (base[half - 1] <= bucket) * half;
-		length -= half;
-	}
-	return (uint32_t)(base - t->end);
+	reply_two("ok ", reply.moved, reply.header.interval_count);
 }
 
 static void where(uint32_t bucket)
 {
-	if (bucket >= map->buckets) {
-		refuse(6);
-		return;
-	}
+	struct table t = to_read(map);
+	struct irr_place_reply reply = placed(&t, bucket);
 
-	uint32_t i = interval_of(map, bucket);
-	uint32_t rank = bucket - map->adjustment[i];
-	uint32_t first = map->edge[map->block[i]];
-	uint32_t size = map->edge[map->block[i] + 1] - first;
-
-	reply_two("place ", first + rank % size, rank / size);
+	if (reply.refusal != 0)
+		refuse(reply.refusal);
+	else
+		reply_two("place ", reply.bin, reply.position);
 }
 
 static void at(uint32_t bin, uint32_t position)
 {
-	uint32_t bins = bins_of(map);
+	struct table t = to_read(map);
+	struct irr_find_reply reply = found(&t, bin, position);
 
-	if (bin >= bins ||
-	    position >= map->buckets / bins + (bin < map->buckets % bins)) {
-		refuse(7);
-		return;
-	}
-
-	uint32_t block = 0;
-	while (bin >= map->edge[block + 1])
-		block++;
-
-	uint32_t first = map->edge[block];
-	uint32_t rank = position * (map->edge[block + 1] - first) + (bin - first);
-
-	/* Ranks of a block rise from the left, and the position is one that the bin
-	 * has, so the loop ends at the interval that holds the rank. */
-	uint32_t i = 0;
-	while (map->block[i] != block || rank + map->adjustment[i] >= map->end[i])
-		i++;
-	reply_one("bucket ", rank + map->adjustment[i]);
+	if (reply.refusal != 0)
+		refuse(reply.refusal);
+	else
+		reply_one("bucket ", reply.bucket);
 }
 
 /* The rows of the latest growth. Moved buckets take the ranks of the new block in
@@ -412,27 +196,27 @@ static void at(uint32_t bin, uint32_t position)
  * inside an interval. */
 static void moves(void)
 {
-	if (!has_before || map->blocks == before->blocks)
+	if (!has_before || map->header.block_count == before->header.block_count)
 		return;
 
-	const struct table *old = before;
-	uint32_t due[MAX_BLOCKS];
-	uint32_t new_first = bins_of(old), new_top = bins_of(map);
+	struct table old = to_read(before), now = to_read(map);
+	uint32_t due[IRR_MAX_BLOCKS];
+	uint32_t new_first = bins_of(&old), new_top = bins_of(&now);
 	uint32_t new_bin = new_first, new_position = 0;
 	uint32_t start = 0;
 
-	due_sizes(old, map->buckets, new_top, due);
-	for (uint32_t i = 0; i < old->intervals; i++) {
-		uint32_t end = old->end[i];
-		uint32_t cut = cut_of(old, due, i, start);
+	due_sizes(&old, now.header.buckets, new_top, due);
+	for (uint32_t i = 0; i < old.header.interval_count; i++) {
+		uint32_t end = old.ends[i];
+		uint32_t cut = cut_of(&old, due, i, start);
 
 		start = end;
 		if (cut == end)
 			continue;
 
-		uint32_t first = old->edge[old->block[i]];
-		uint32_t top = old->edge[old->block[i] + 1];
-		uint32_t rank = cut - old->adjustment[i];
+		uint32_t first = first_bin(&old, old.blocks[i]);
+		uint32_t top = old.tops[old.blocks[i]];
+		uint32_t rank = cut - old.adjustments[i];
 		uint32_t bin = first + rank % (top - first);
 		uint32_t position = rank / (top - first);
 

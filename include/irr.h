@@ -1,5 +1,6 @@
 /*
- * The placement map for C: Interval-Round-Robin (Choy, Fagin, Stockmeyer).
+ * The placement map for C: Interval-Round-Robin (Choy, Fagin, Stockmeyer). Its library, libirr.a, is
+ * for x86-64 Linux. irr(3) has an example.
  *
  * Buckets 0 to B-1 lie in bins 0 to n-1, each at a position of its bin. A block is the bins that
  * were added together; an interval is a span of bucket numbers, all in one block; the rank of a
@@ -29,6 +30,12 @@
 #ifdef __cplusplus
 extern "C" {
 #endif
+
+/* The version of this header and its library; IRR_VERSION is one number, to compare in an #if. */
+#define IRR_VERSION_MAJOR 0
+#define IRR_VERSION_MINOR 1
+#define IRR_VERSION_PATCH 0
+#define IRR_VERSION (10000 * IRR_VERSION_MAJOR + 100 * IRR_VERSION_MINOR + IRR_VERSION_PATCH)
 
 #define IRR_MAX_BUCKETS 1000000000 /* B */
 #define IRR_MAX_BINS 65535         /* n, which is also at most B */
