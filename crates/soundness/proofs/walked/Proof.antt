@@ -1,7 +1,7 @@
 -- `soundness::walked` meets its contract. The loop's invariant: the array has the sums before interval i, and `wrong` says
 -- whether an adjustment of the first i intervals is wrong. Assumes nothing.
-use Prim.Native.Nat.{_≤_, _-_}
-use mathlib.Core.Path.{_≡_, refl, sym, _∙_, ap}
+use Prim.Native.Nat.{ℕ, _≤_, _-_}
+use mathlib.Core.Path.{_≡_, refl, _∙_, ap}
 use mathlib.Core.Logic.{⊎-elim}
 use mathlib.Core.Bool.{not}
 use mathlib.Core.List.{[]}
@@ -93,20 +93,22 @@ mul-sums c = let t = here (inside c) in omega arith
 element-write-sums : tie.Need-element-write-sums Inv-loop μ-loop
 element-write-sums c = let t = here (inside c) in omega arith
 
--- what the test compares with is the right adjustment
-right
+-- the interval's lent adjustment, and the right one
+abbrev lent : tie.Then1 Inv-loop μ-loop → ℕ
+lent c = getD (c .before .before .before .args .adjustments .now) (c .before .before .loop .i) 0
+
+abbrev right : tie.Then1 Inv-loop μ-loop → ℕ
+right c =
+    let s = c .before .before .before .args in
+    adjustmentOf (s .h) (arrays [] (s .ends .now) (s .blocks .now) (s .adjustments .now)) (c .before .before .loop .i)
+
+-- the right one is the start less the sum
+start-less
     : (c : tie.Then1 Inv-loop μ-loop)
     → c .before .before .loop .start
     - getD (c .before .before .loop .sums) (getD (c .before .before .before .args .blocks .now) (c .before .before .loop .i) 0) 0
-    ≡ adjustmentOf
-    (c .before .before .before .args .h)
-    (arrays
-    []
-    (c .before .before .before .args .ends .now)
-    (c .before .before .before .args .blocks .now)
-    (c .before .before .before .args .adjustments .now))
-    (c .before .before .loop .i)
-right c = omega (arith, sums-adjustment _ _ _ _ _ _ (c .before .before .loop .inv .1) refl (here c .block))
+    ≡ right c
+start-less c = omega (arith, sums-adjustment _ _ _ _ _ _ (c .before .before .loop .inv .1) refl (here c .block))
 
 add-i : tie.Need-add-i Inv-loop μ-loop
 add-i c = omega arith
@@ -119,8 +121,11 @@ loop-again c = (
   omega arith,
   turned _ [] _ _ _ (inside c .before .before .before .pre .0) _ _ _ (inside c .before .before .loop .inv .1) (omega arith),
   ⊎-elim
-      (λ w. w .1 ∙ wrong-set _ _ (ne-eqb _ _ (λ e. w .0 .taken (e ∙ sym (right (inside c))))))
-      (λ w. w .1 ∙ wrong-kept _ _ _ (inside c .before .before .loop .inv .2) (eq-eqb _ _ (w .0 .left ∙ right (inside c))))
+      (λ w. w .1 ∙ wrong-set _ _ (ne-eqb (lent (inside c)) (right (inside c)) (λ e. let t = w .0 in omega (arith, start-less (inside c)))))
+      (λ w.
+      w .1
+      ∙ wrong-kept _ _ _ (inside c .before .before .loop .inv .2)
+      (eq-eqb (lent (inside c)) (right (inside c)) (let t = w .0 in omega (arith, start-less (inside c)))))
       (c .if2 .came),
 )
 
