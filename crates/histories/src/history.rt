@@ -1,16 +1,16 @@
 // A history: a fresh map, and growths of it, some of them refused.
 use crate::ask::asked;
 use crate::ask::refusal;
+use crate::compare;
+use crate::directory;
+use crate::directory::Directory;
 use crate::print::end;
 use crate::print::number;
 use crate::print::text;
-use directory::compare;
-use directory::growth;
-use directory::growth::Directory;
-use directory::state;
-use directory::state::State;
-use directory::state::same;
-use directory::total::plus;
+use crate::state;
+use crate::state::State;
+use crate::state::same;
+use crate::total::plus;
 use model::reply::TableReply;
 use model::table::Header;
 
@@ -67,8 +67,8 @@ fn expand(
 
 // The directory after an accepted call, and what the call replied besides the number of intervals.
 fn grown(reply: TableReply, d: &mut Directory, s: State) -> State {
-    growth::grow(d, s);
-    let moved = growth::moved(d, s.buckets);
+    directory::grow(d, s);
+    let moved = directory::moved(d, s.buckets);
     let s = state::grown(s, reply.header, moved);
     let s = same(s, reply.refusal, 0);
     let s = same(s, reply.moved, moved);

@@ -1,20 +1,24 @@
 // Plays histories through the public calls, compares every map with a full directory of buckets, and prints what it counted.
 // The random ones come from a fixed seed, so that a run is like any other.
 mod ask;
+mod compare;
+mod directory;
 mod history;
 mod print;
+mod state;
+mod total;
 
 use crate::history::play;
 use crate::print::end;
 use crate::print::line;
 use crate::print::number;
 use crate::print::text;
-use directory::state::State;
-use directory::state::below;
-use directory::state::draw;
-use directory::state::fresh;
-use directory::total::least;
-use directory::total::plus;
+use crate::state::State;
+use crate::state::below;
+use crate::state::draw;
+use crate::state::fresh;
+use crate::total::least;
+use crate::total::plus;
 use model::table::Header;
 
 // So many random histories of so many growths each, from at most `first` buckets.
