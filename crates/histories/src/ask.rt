@@ -1,5 +1,4 @@
 // The growths that are asked for, and which of them are refused by their sizes.
-use crate::directory::MOST;
 use crate::state::State;
 use crate::state::below;
 use crate::state::draw;
@@ -7,6 +6,9 @@ use crate::total::entry;
 use crate::total::least;
 use crate::total::minus;
 use crate::total::plus;
+
+// No random map has more buckets.
+const MOST: u32 = 4_096;
 
 fn ask(s: State, buckets: u32, bins: u32) -> State {
     let mut after = s;

@@ -3,6 +3,7 @@ use crate::directory;
 use crate::directory::BIN;
 use crate::directory::Directory;
 use crate::directory::POSITION;
+use crate::directory::SIZE;
 use crate::directory::get;
 use crate::state::State;
 use crate::state::same;
@@ -110,7 +111,7 @@ fn find(
     same(s, reply.bucket, bucket)
 }
 
-// Every bin's size, counted, and nothing found behind it.
+// Every bin's size, and nothing found behind it.
 fn bins(
     h: Header,
     tops: &[u32],
@@ -126,7 +127,7 @@ fn bins(
     while next < count {
         let bin = next;
         next += 1;
-        let size = directory::held(d, s.buckets, bin, 1);
+        let size = get(d, SIZE, bin);
         let sized = bin_size(h, tops, ends, blocks, adjustments, bin, size, s);
         let found = find(h, tops, ends, blocks, adjustments, bin, size, 7, 0, sized);
         s = found;

@@ -7,23 +7,26 @@ use crate::total::plus;
 use crate::total::quotient;
 use crate::total::remainder;
 
-// Rows: four with an entry for each bucket, and one with the first bin of each block and, behind the last one, n.
-pub type Directory = [[u32; 4096]; 5];
+// Rows: four with an entry for each bucket, one with the first bin of each block and, behind the last one, n, and one with
+// the number of buckets in each bin.
+pub type Directory = [[u32; 65536]; 6];
 
-pub const MOST: u32 = 4_096;
+const MOST: u32 = 65_536;
 
-pub const OLD_BIN: usize = 0;
+const OLD_BIN: usize = 0;
 
-pub const OLD_POSITION: usize = 1;
+const OLD_POSITION: usize = 1;
 
 pub const BIN: usize = 2;
 
 pub const POSITION: usize = 3;
 
-pub const FIRST: usize = 4;
+const FIRST: usize = 4;
+
+pub const SIZE: usize = 5;
 
 pub fn get(d: &Directory, row: usize, i: u32) -> u32 {
-    if row < 5 {
+    if row < 6 {
         if i < MOST {
             return d[row][i as usize];
         }
@@ -32,7 +35,7 @@ pub fn get(d: &Directory, row: usize, i: u32) -> u32 {
 }
 
 fn put(d: &mut Directory, row: usize, i: u32, x: u32) {
-    if row < 5 {
+    if row < 6 {
         if i < MOST {
             d[row][i as usize] = x;
         }
@@ -77,7 +80,7 @@ fn due(d: &Directory, buckets: u32, bins: u32, block: u32) -> u32 {
 }
 
 // How many of the buckets below `count` are in the `width` bins from `first` on.
-pub fn held(d: &Directory, count: u32, first: u32, width: u32) -> u32 {
+fn held(d: &Directory, count: u32, first: u32, width: u32) -> u32 {
     let mut sum: u32 = 0;
     let mut bucket: u32 = 0;
     while bucket < count {
@@ -106,6 +109,8 @@ pub fn grow(d: &mut Directory, s: State) {
     } else {
         fill(d, blocks, s.buckets, s.asked_buckets, s.asked_bins);
     }
+    clear_sizes(d);
+    count_sizes(d, s.asked_buckets);
 }
 
 fn remember(d: &mut Directory) {
@@ -176,6 +181,19 @@ fn fill_block(d: &mut Directory, buckets: u32, bins: u32, block: u32, start: u32
         rank += 1;
     }
     next
+}
+
+fn clear_sizes(d: &mut Directory) {
+    d[SIZE] = [0; 65536];
+}
+
+fn count_sizes(d: &mut Directory, count: u32) {
+    let mut bucket: u32 = 0;
+    while bucket < count {
+        let bin = get(d, BIN, bucket);
+        put(d, SIZE, bin, plus(get(d, SIZE, bin), 1));
+        bucket += 1;
+    }
 }
 
 // How many of the first `count` buckets have another bin.

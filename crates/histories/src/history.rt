@@ -194,13 +194,34 @@ fn step(tops: &mut [u32; 65], rest: &mut Rest, d: &mut Directory, s: State) -> S
 pub fn play(before: State, most_buckets: u32, most_bins: u32, growths: u32) -> State {
     let mut tops = [0u32; 65];
     let mut rest = [[0u32; 2081]; 3];
-    let mut d = [[0u32; 4096]; 5];
-    let mut s = begun(&mut tops, &mut rest, &mut d, before);
+    let mut d = [[0u32; 65536]; 6];
+    let s = begun(&mut tops, &mut rest, &mut d, before);
+    grow_on(
+        &mut tops,
+        &mut rest,
+        &mut d,
+        s,
+        most_buckets,
+        most_bins,
+        growths,
+    )
+}
+
+fn grow_on(
+    tops: &mut [u32; 65],
+    rest: &mut Rest,
+    d: &mut Directory,
+    before: State,
+    most_buckets: u32,
+    most_bins: u32,
+    growths: u32,
+) -> State {
+    let mut s = before;
     let mut i: u32 = 0;
     while i < growths {
         let ask = asked(s, most_buckets, most_bins, i);
         i += 1;
-        let after = step(&mut tops, &mut rest, &mut d, ask);
+        let after = step(tops, rest, d, ask);
         s = after;
     }
     s

@@ -16,8 +16,8 @@ loop-holds c = search needs
 add-next : tie.Need-add-next Inv-loop μ-loop
 add-next c = search needs
 
-held-requires : tie.Need-held-requires Inv-loop μ-loop
-held-requires c κs = search needs
+get-requires : tie.Need-get-requires Inv-loop μ-loop
+get-requires c κs = search needs
 
 bin-size-requires : tie.Need-bin-size-requires Inv-loop μ-loop
 bin-size-requires c κs = search needs
@@ -45,7 +45,7 @@ bins-spec =
     μ-loop
     loop-holds
     add-next
-    held-requires
+    get-requires
     bin-size-requires
     find-requires
     plus-requires

@@ -1,17 +1,14 @@
--- `histories::history::play` meets its contract. Assumes nothing.
+-- `histories::history::grow_on` meets its contract. Assumes nothing.
 use Prim.Native.Nat.{_-_, _≤_}
 use borrow.Author.Needs.{needs}
-use Rattle.histories.proofs.history.play.Statement.{statement}
-use Rattle.histories.proofs.history.play.Tie as tie
+use Rattle.histories.proofs.history.grow_on.Statement.{statement}
+use Rattle.histories.proofs.history.grow_on.Tie as tie
 
 abbrev Inv-loop : tie.InvT-loop
-Inv-loop most-buckets most-bins growths tops₀ rest₀ d₀ s₀ i₀ tops rest d s i = i ≤ growths
+Inv-loop tops₀ rest₀ d₀ most-buckets most-bins growths s₀ i₀ tops rest d s i = i ≤ growths
 
 abbrev μ-loop : tie.MeasureT-loop
-μ-loop most-buckets most-bins growths tops₀ rest₀ d₀ s₀ i₀ tops rest d s i = growths - i
-
-begun-requires : tie.Need-begun-requires Inv-loop μ-loop
-begun-requires c κs = search needs
+μ-loop tops₀ rest₀ d₀ most-buckets most-bins growths s₀ i₀ tops rest d s i = growths - i
 
 loop-holds : tie.Need-loop-holds Inv-loop μ-loop
 loop-holds c = search needs
@@ -34,13 +31,12 @@ loop-again c = search needs
 returns : tie.Need-returns Inv-loop μ-loop
 returns c = search needs
 
-pub play-spec : {M : Type 1} → statement M
-play-spec =
+pub grow-on-spec : {M : Type 1} → statement M
+grow-on-spec =
     tie.close
     (tie.spec
     Inv-loop
     μ-loop
-    begun-requires
     loop-holds
     asked-requires
     add-i
