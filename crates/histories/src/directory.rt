@@ -1,5 +1,5 @@
-// The directory: the bin and position of every bucket, now and before the latest growth, and the first bins of the blocks.
-// It knows no intervals: a growth deals single buckets.
+// The directory: the bin and position of every bucket, now and before the latest growth, the first bins of the blocks, and the
+// sizes of the bins. It knows no intervals: a growth deals single buckets.
 use crate::state::State;
 use crate::total::NONE;
 use crate::total::minus;
