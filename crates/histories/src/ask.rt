@@ -1,12 +1,14 @@
 // The growths that are asked for, and which of them are refused by their sizes.
-use directory::growth::MOST;
-use directory::state::State;
-use directory::state::below;
-use directory::state::draw;
-use directory::total::entry;
-use directory::total::least;
-use directory::total::minus;
-use directory::total::plus;
+use crate::state::State;
+use crate::state::below;
+use crate::state::draw;
+use crate::total::entry;
+use crate::total::least;
+use crate::total::minus;
+use crate::total::plus;
+
+// No random map has more buckets.
+const MOST: u32 = 4_096;
 
 fn ask(s: State, buckets: u32, bins: u32) -> State {
     let mut after = s;

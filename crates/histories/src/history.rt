@@ -1,16 +1,16 @@
 // A history: a fresh map, and growths of it, some of them refused.
 use crate::ask::asked;
 use crate::ask::refusal;
+use crate::compare;
+use crate::directory;
+use crate::directory::Directory;
 use crate::print::end;
 use crate::print::number;
 use crate::print::text;
-use directory::compare;
-use directory::growth;
-use directory::growth::Directory;
-use directory::state;
-use directory::state::State;
-use directory::state::same;
-use directory::total::plus;
+use crate::state;
+use crate::state::State;
+use crate::state::same;
+use crate::total::plus;
 use model::reply::TableReply;
 use model::table::Header;
 
@@ -67,8 +67,8 @@ fn expand(
 
 // The directory after an accepted call, and what the call replied besides the number of intervals.
 fn grown(reply: TableReply, d: &mut Directory, s: State) -> State {
-    growth::grow(d, s);
-    let moved = growth::moved(d, s.buckets);
+    directory::grow(d, s);
+    let moved = directory::moved(d, s.buckets);
     let s = state::grown(s, reply.header, moved);
     let s = same(s, reply.refusal, 0);
     let s = same(s, reply.moved, moved);
@@ -194,13 +194,34 @@ fn step(tops: &mut [u32; 65], rest: &mut Rest, d: &mut Directory, s: State) -> S
 pub fn play(before: State, most_buckets: u32, most_bins: u32, growths: u32) -> State {
     let mut tops = [0u32; 65];
     let mut rest = [[0u32; 2081]; 3];
-    let mut d = [[0u32; 4096]; 5];
-    let mut s = begun(&mut tops, &mut rest, &mut d, before);
+    let mut d = [[0u32; 65536]; 6];
+    let s = begun(&mut tops, &mut rest, &mut d, before);
+    grow_on(
+        &mut tops,
+        &mut rest,
+        &mut d,
+        s,
+        most_buckets,
+        most_bins,
+        growths,
+    )
+}
+
+fn grow_on(
+    tops: &mut [u32; 65],
+    rest: &mut Rest,
+    d: &mut Directory,
+    before: State,
+    most_buckets: u32,
+    most_bins: u32,
+    growths: u32,
+) -> State {
+    let mut s = before;
     let mut i: u32 = 0;
     while i < growths {
         let ask = asked(s, most_buckets, most_bins, i);
         i += 1;
-        let after = step(&mut tops, &mut rest, &mut d, ask);
+        let after = step(tops, rest, d, ask);
         s = after;
     }
     s

@@ -1,20 +1,25 @@
 // Plays histories through the public calls, compares every map with a full directory of buckets, and prints what it counted.
 // The random ones come from a fixed seed, so that a run is like any other.
 mod ask;
+mod compare;
+mod directory;
 mod history;
 mod print;
+mod state;
+mod total;
 
 use crate::history::play;
 use crate::print::end;
 use crate::print::line;
 use crate::print::number;
 use crate::print::text;
-use directory::state::State;
-use directory::state::below;
-use directory::state::draw;
-use directory::state::fresh;
-use directory::total::least;
-use directory::total::plus;
+use crate::state::State;
+use crate::state::below;
+use crate::state::draw;
+use crate::state::fresh;
+use crate::total::least;
+use crate::total::minus;
+use crate::total::plus;
 use model::table::Header;
 
 // So many random histories of so many growths each, from at most `first` buckets.
@@ -43,6 +48,18 @@ fn started(s: State, first: u32) -> State {
     let seed = draw(seed);
     let bins = plus(below(seed, least(buckets, 8)), 1);
     fresh(s, seed, buckets, bins)
+}
+
+// Document 01's figure of the most bins: Fresh (65535, 65535).
+fn widest(before: State) -> State {
+    let s = play(fresh(before, before.seed, 65_535, 65_535), 0, 0, 0);
+    text(b"fresh map: buckets, bins, comparisons, failed");
+    number(s.buckets);
+    number(s.bins);
+    number(minus(s.compared, before.compared));
+    number(minus(s.failed, before.failed));
+    end();
+    s
 }
 
 fn refusals(s: State) {
@@ -107,6 +124,7 @@ fn main() {
     let s = random(s, 4, 200, 300, 30, 24);
     let s = random(s, 2, 30, 5, 1, 150);
     let s = play(fresh(s, s.seed, 200, 1), 0, 0, 116);
+    let s = widest(s);
     print_histories(s);
     refusals(s);
     print_comparisons(s);

@@ -1,11 +1,9 @@
 -- Laws of a number in a line, and what the loop that reads it keeps. Assumes nothing.
-use Prim.Native.Nat.{ℕ, _+_, _-_, _*_, _^_, _≤_, _<_}
+use Prim.Native.Nat.{ℕ, _+_, _-_, _*_, _≤_, _<_}
 use mathlib.Core.Path.{_≡_, refl, sym, _∙_, ap}
 use mathlib.Core.Bool.{true}
 use mathlib.Core.Logic.{⊎-elim}
 use mathlib.Core.List.{List, [], _∷_}
-use native.Mathlib.Nat.{pow-succ', pow-le-pow-right, sub-self}
-use native.Mathlib.Numerals.{add-one}
 use native.Mathlib.Omega.{arith}
 use lib.ListN.{length, getD}
 use borrow.Author.Tests.{leb-true, le-leb}
@@ -52,26 +50,25 @@ digits-next : (c : ℕ) (w : List ℕ) → 48 ≤ c → c ≤ 57 → digitsOnly 
 unfolding digitsOnly _and_
 digits-next c w h k = rw (le-leb 48 c h, le-leb c 57 k)
 
+-- a value only grows
+value-grows : (v : ℕ) (w : List ℕ) → v ≤ valueFrom v w
+unfolding valueFrom
+value-grows v [] = omega arith
+value-grows v (c ∷ w) = omega (arith, value-grows (10 * v + (c - 48)) w)
+
 -- THE LOOP
 
--- the bytes from place `from` up to place `end` are digits of value v
+-- the bytes from place `from` up to place `end` are digits of value v, which is at most the limit and one more digit
 pub record Digits (l : List ℕ) (from end v : ℕ) : Type 0 where
   pub reached : Reached 32 l from end
-  pub few : end ≤ from + 10
   pub digits : digitsOnly (wordAt l from) ≡ digitsOnly (wordAt l end)
   pub values : value (wordAt l from) ≡ valueFrom v (wordAt l end)
-  pub small : v < 10 ^ (end - from)
+  pub small : v ≤ 42_949_672_959
 
 pub digits-none : (l : List ℕ) (from : ℕ) → from ≤ length l → Digits l from from 0
 unfolding value
 digits-none l from h =
-    record {
-      reached = reached-start 32 l from h;
-      few = omega arith;
-      digits = refl;
-      values = refl;
-      small = rw (sub-self from) (omega arith);
-    }
+    record { reached = reached-start 32 l from h; digits = refl; values = refl; small = omega arith }
 
 -- no number
 not-number : (l : List ℕ) (from : ℕ) → (isNumber (wordAt l from) ≡ true → ⊥) → numberAt l from ≡ Other
@@ -79,30 +76,21 @@ unfolding numberAt if_then_else_
 not-number l from h = ⊎-elim (λ t. absurd (h (t .0))) (λ t. rw (t .0)) (bit-cases (isNumber (wordAt l from)))
 
 module _ {l : List ℕ} {from end v : ℕ} (s : Digits l from end v) where
-  -- nine digits at most, before one more
-  pub digits-small : end < from + 10 → v < 1_000_000_000
-  digits-small h =
-      let nine : 10 ^ (end - from) ≤ 10 ^ 9 = pow-le-pow-right (omega arith) {i = end - from} {j = 9} (omega arith) in
-      omega (arith, s .small)
-
   -- at a byte that is no blank
   module _ (i : end < length l) (b : getD l end 0 ≡ 32 → ⊥) where
     next : wordAt l end ≡ getD l end 0 ∷ wordAt l (end + 1)
     next = span-next 32 l end i b
 
     pub digits-more
-        : 48 ≤ getD l end 0 → getD l end 0 ≤ 57 → end < from + 10
+        : 48 ≤ getD l end 0 → getD l end 0 ≤ 57 → v ≤ 4_294_967_295
         → Digits l from (end + 1) (10 * v + (getD l end 0 - 48))
     unfolding valueFrom
     digits-more h k f =
         record {
           reached = reached-next (s .reached) i b;
-          few = omega arith;
           digits = s .digits ∙ ap digitsOnly next ∙ digits-next (getD l end 0) (wordAt l (end + 1)) h k;
           values = s .values ∙ ap (valueFrom v) next;
-          small =
-              let one : end + 1 - from ≡ end - from + 1 = omega (arith, s .reached .later) in
-              rw (one, add-one (end - from), pow-succ') (omega (arith, s .small));
+          small = omega arith;
         }
 
     pub digits-wrong : (48 ≤ getD l end 0 → getD l end 0 ≤ 57 → ⊥) → numberAt l from ≡ Other
@@ -112,10 +100,8 @@ module _ {l : List ℕ} {from end v : ℕ} (s : Digits l from end v) where
         let d = first-digit (getD l end 0) (wordAt l (end + 1)) (sym (ap digitsOnly next) ∙ sym (s .digits) ∙ number-is _ t .digits) in
         h (d .0) (d .1))
 
-    pub digits-many : from + 10 ≤ end → numberAt l from ≡ Other
-    digits-many h =
-        not-number l from
-        (λ t. omega (arith, number-is _ t .few, s .reached .ends, ap length next))
+  pub digits-large : 4_294_967_295 < v → numberAt l from ≡ Other
+  digits-large h = not-number l from (λ t. omega (arith, number-is _ t .fits, s .values, value-grows v (wordAt l end)))
 
   -- at the word's end
   module _ (e : wordAt l end ≡ []) where
@@ -129,17 +115,17 @@ module _ {l : List ℕ} {from end v : ℕ} (s : Digits l from end v) where
     pub digits-empty : end ≡ from → numberAt l from ≡ Other
     digits-empty h = not-number l from (λ t. omega (arith, number-is _ t .some, ended))
 
-    pub digits-large : 4_294_967_295 < v → numberAt l from ≡ Other
-    digits-large h = not-number l from (λ t. omega (arith, number-is _ t .fits, last))
+    pub digits-many : 10 < end - from → numberAt l from ≡ Other
+    digits-many h = not-number l from (λ t. omega (arith, number-is _ t .few, ended))
 
-    pub digits-end : (end ≡ from → ⊥) → v ≤ 4_294_967_295 → Number v end ≡ numberAt l from
+    pub digits-end : (end ≡ from → ⊥) → end - from ≤ 10 → v ≤ 4_294_967_295 → Number v end ≡ numberAt l from
     unfolding numberAt if_then_else_ digitsOnly
-    digits-end h k =
+    digits-end h f k =
         let number : isNumber (wordAt l from) ≡ true =
         is-number (wordAt l from)
         (record {
           some = omega (arith, ended, s .reached .later);
-          few = omega (arith, ended, s .few);
+          few = omega (arith, ended);
           digits = s .digits ∙ ap digitsOnly e;
           fits = omega (arith, last);
         })

@@ -100,7 +100,7 @@ fn is_word(line: &[u8], end: usize, word: &[u8]) -> bool
     true
 }
 
-// The number at a place of a line. Its digits are at most ten, so their value fits.
+// The number at a place of a line. A value above the limit takes no further digit, so that it fits.
 fn number(line: &[u8], from: usize) -> Parsed
     requires { ⌜ from ≤ length (now line) ⌝ }
     ensures { λ r. ⌜ r ≡ numberAt (now (line .entry)) from ⌝ }
@@ -118,7 +118,7 @@ fn number(line: &[u8], from: usize) -> Parsed
         if b'9' < c {
             return Parsed::Other;
         }
-        if end - from == 10 {
+        if 4_294_967_295 < value {
             return Parsed::Other;
         }
         value = 10 * value + (c - b'0') as u64;
@@ -127,13 +127,16 @@ fn number(line: &[u8], from: usize) -> Parsed
     if end == from {
         return Parsed::Other;
     }
-    if 4_294_967_295 < value {
+    if 10 < end - from {
         return Parsed::Other;
     }
-    Parsed::Number {
-        value: value as u32,
-        end,
+    if value <= 4_294_967_295 {
+        return Parsed::Number {
+            value: value as u32,
+            end,
+        };
     }
+    Parsed::Other
 }
 
 // A line of a word, the first `end` bytes, and two numbers.

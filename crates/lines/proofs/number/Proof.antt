@@ -7,7 +7,7 @@ use native.Mathlib.Omega.{arith}
 use lib.ListN.{length}
 use Rattle.lines.specs.Words.{wordAt}
 use Rattle.lines.proofs.Spans.{none-at, none-at-end}
-use Rattle.lines.proofs.Numbers.{Digits, digits-none, digits-small, digits-more, digits-wrong, digits-many, digits-empty, digits-large, digits-end}
+use Rattle.lines.proofs.Numbers.{Digits, digits-none, digits-more, digits-wrong, digits-large, digits-empty, digits-many, digits-end}
 use Rattle.lines.proofs.number.Statement.{statement}
 use Rattle.lines.proofs.number.Tie as tie
 
@@ -31,21 +31,17 @@ returns-2 : tie.Need-returns-2 Inv-loop μ-loop
 returns-2 c =
     sym (digits-wrong (c .before .before .before .before .before .loop .inv) (omega arith) (λ e. omega arith) (λ h k. omega arith))
 
-sub-if4 : tie.Need-sub-if4 Inv-loop μ-loop
-sub-if4 c = omega arith
-
 returns-3 : tie.Need-returns-3 Inv-loop μ-loop
-returns-3 c =
-    sym (digits-many (c .before .before .before .before .before .before .loop .inv) (omega arith) (λ e. omega arith) (omega arith))
+returns-3 c = sym (digits-large (c .before .before .before .before .before .before .loop .inv) (omega arith))
 
 mul-value : tie.Need-mul-value Inv-loop μ-loop
-mul-value c = omega (arith, digits-small (c .before .before .before .before .before .before .loop .inv) (omega arith))
+mul-value c = omega arith
 
 cast-value : tie.Need-cast-value Inv-loop μ-loop
 cast-value c = omega arith
 
 add-value : tie.Need-add-value Inv-loop μ-loop
-add-value c = omega (arith, digits-small (c .before .before .before .before .before .before .loop .inv) (omega arith))
+add-value c = omega arith
 
 add-end : tie.Need-add-end Inv-loop μ-loop
 add-end c = omega arith
@@ -66,14 +62,21 @@ stopped c =
 returns-4 : tie.Need-returns-4 Inv-loop μ-loop
 returns-4 c = sym (digits-empty (c .before .before .loop .inv) (stopped (c .before)) (omega arith))
 
-returns-5 : tie.Need-returns-5 Inv-loop μ-loop
-returns-5 c = sym (digits-large (c .before .before .before .loop .inv) (stopped (c .before .before)) (omega arith))
+sub-if6 : tie.Need-sub-if6 Inv-loop μ-loop
+sub-if6 c = omega arith
 
-cast-t13 : tie.Need-cast-t13 Inv-loop μ-loop
-cast-t13 c = omega arith
+returns-5 : tie.Need-returns-5 Inv-loop μ-loop
+returns-5 c = sym (digits-many (c .before .before .before .loop .inv) (stopped (c .before .before)) (omega arith))
+
+cast-t14 : tie.Need-cast-t14 Inv-loop μ-loop
+cast-t14 c = omega arith
 
 returns-6 : tie.Need-returns-6 Inv-loop μ-loop
-returns-6 c = digits-end (c .before .before .before .loop .inv) (stopped (c .before .before)) (λ e. omega arith) (omega arith)
+returns-6 c =
+    digits-end (c .before .before .before .before .loop .inv) (stopped (c .before .before .before)) (λ e. omega arith) (omega arith) (omega arith)
+
+returns-7 : tie.Need-returns-7 Inv-loop μ-loop
+returns-7 c = sym (digits-large (c .before .before .before .before .loop .inv) (omega arith))
 
 pub number-spec : {M : Type 1} → statement M
 number-spec =
@@ -85,7 +88,6 @@ number-spec =
     shared-slice-read-c
     returns
     returns-2
-    sub-if4
     returns-3
     mul-value
     cast-value
@@ -94,6 +96,8 @@ number-spec =
     loop-less
     loop-again
     returns-4
+    sub-if6
     returns-5
-    cast-t13
-    returns-6)
+    cast-t14
+    returns-6
+    returns-7)

@@ -94,7 +94,7 @@ unfolding dueBelow
 loop-again c =
     let t = due-turn _ _ (c .before .before .before .before .before .before .before .before .before .before .before .before .pre) (c .before .before .before .before .before .before .loop .j) (omega arith) in (
       omega arith,
-      rw before-next (c .before .before .due-below .ensures),
+      rw before-next (omega (arith, c .before .before .due-below .ensures)),
       below-more _ _ (c .before .before .before .before .before .before .loop .inv .2) (omega (arith, c .before .before .due-below .ensures, c .if2 .left)),
     )
 

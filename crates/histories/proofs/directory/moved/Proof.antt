@@ -1,0 +1,50 @@
+-- `histories::directory::moved` meets its contract. Assumes nothing.
+use Prim.Native.Nat.{_-_, _≤_}
+use borrow.Author.Needs.{needs}
+use Rattle.histories.proofs.directory.moved.Statement.{statement}
+use Rattle.histories.proofs.directory.moved.Tie as tie
+
+abbrev Inv-loop : tie.InvT-loop
+Inv-loop d count sum₀ bucket₀ sum bucket = bucket ≤ count
+
+abbrev μ-loop : tie.MeasureT-loop
+μ-loop d count sum₀ bucket₀ sum bucket = count - bucket
+
+loop-holds : tie.Need-loop-holds Inv-loop μ-loop
+loop-holds c = search needs
+
+get-requires : tie.Need-get-requires Inv-loop μ-loop
+get-requires c κs = search needs
+
+get-requires-2 : tie.Need-get-requires-2 Inv-loop μ-loop
+get-requires-2 c κs = search needs
+
+plus-requires : tie.Need-plus-requires Inv-loop μ-loop
+plus-requires c κs = search needs
+
+add-bucket : tie.Need-add-bucket Inv-loop μ-loop
+add-bucket c = search needs
+
+loop-less : tie.Need-loop-less Inv-loop μ-loop
+loop-less c = search needs
+
+loop-again : tie.Need-loop-again Inv-loop μ-loop
+loop-again c = search needs
+
+returns : tie.Need-returns Inv-loop μ-loop
+returns c = search needs
+
+pub moved-spec : {M : Type 1} → statement M
+moved-spec =
+    tie.close
+    (tie.spec
+    Inv-loop
+    μ-loop
+    loop-holds
+    get-requires
+    get-requires-2
+    plus-requires
+    add-bucket
+    loop-less
+    loop-again
+    returns)
