@@ -2,6 +2,8 @@
 // every rule has passed. `h` is the header that the file says.
 use crate::number::header_of;
 use crate::number::number_at;
+use model::limits::BLOCKS;
+use model::limits::INTERVALS;
 use model::reply::LoadReply;
 use model::table::Header;
 use soundness::complete;
@@ -141,7 +143,7 @@ fn load_few(
     requires { ⌜ h .«interval_count» ≤ 64 ⌝ }
     ensures { λ r. ⌜ Loaded (now (f .entry)) (given tops ends blocks adjustments) r (left tops ends blocks adjustments) ⌝ }
 {
-    let mut own_tops = [0u32; 65];
+    let mut own_tops = [0u32; BLOCKS];
     let mut own_ends = [0u32; 64];
     let mut own_blocks = [0u32; 64];
     let mut own_adjustments = [0u32; 64];
@@ -171,10 +173,10 @@ fn load_many(
     requires { ⌜ Opened (now f) h (arraysNow tops ends blocks adjustments) ⌝ }
     ensures { λ r. ⌜ Loaded (now (f .entry)) (given tops ends blocks adjustments) r (left tops ends blocks adjustments) ⌝ }
 {
-    let mut own_tops = [0u32; 65];
-    let mut own_ends = [0u32; 2081];
-    let mut own_blocks = [0u32; 2081];
-    let mut own_adjustments = [0u32; 2081];
+    let mut own_tops = [0u32; BLOCKS];
+    let mut own_ends = [0u32; INTERVALS];
+    let mut own_blocks = [0u32; INTERVALS];
+    let mut own_adjustments = [0u32; INTERVALS];
     load_by(
         f,
         h,

@@ -4,6 +4,7 @@ ghost use Rattle.model.specs.TableClaims.{TableClaims};
 ghost use Rattle.model.specs.ExpansionClaims.{ExpansionClaims};
 
 pub mod command;
+pub mod limits;
 pub mod plan;
 pub mod reply;
 pub mod search;

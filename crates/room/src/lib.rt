@@ -1,6 +1,7 @@
 // The room to set aside for expansions.
 ghost use mathlib.Core.Path.{_≡_};
 ghost use Rattle.model.specs.Calls.{roomReply};
+use model::limits::MAX_EXPANSIONS;
 use model::reply::RoomReply;
 
 // m(m + 1) / 2 + 1 for 0 to 64 expansions.
@@ -76,7 +77,7 @@ const ROOM: [u32; 65] = [
 pub fn room(expansions: u32) -> RoomReply
     ensures { λ r. ⌜ r ≡ roomReply expansions ⌝ }
 {
-    if 64 < expansions {
+    if MAX_EXPANSIONS < expansions {
         return RoomReply {
             refusal: 9,
             intervals: 0,

@@ -1,4 +1,8 @@
 // The sizes asked for, the room lent for a new table, and the initial table.
+use model::limits::BLOCKS;
+use model::limits::INTERVALS;
+use model::limits::MAX_BINS;
+use model::limits::MAX_BUCKETS;
 use model::reply::TableReply;
 use model::table::Header;
 ghost use mathlib.Core.Path.{_≡_};
@@ -13,16 +17,16 @@ ghost use Rattle.model.specs.Calls.{sizeTests};
 pub fn room_short(tops: &[u32], ends: &[u32], blocks: &[u32], adjustments: &[u32]) -> bool
     ensures { λ r. ⌜ r ≡ roomShort (given tops ends blocks adjustments) ⌝ }
 {
-    if tops.len() < 65 {
+    if tops.len() < BLOCKS {
         return true;
     }
-    if ends.len() < 2_081 {
+    if ends.len() < INTERVALS {
         return true;
     }
-    if blocks.len() < 2_081 {
+    if blocks.len() < INTERVALS {
         return true;
     }
-    adjustments.len() < 2_081
+    adjustments.len() < INTERVALS
 }
 
 // 1: a size is 0 or above its limit. 2: n > B. The number of the first that holds, or 0.
@@ -32,13 +36,13 @@ pub fn size_refusal(buckets: u32, bins: u32) -> u32
     if buckets == 0 {
         return 1;
     }
-    if 1_000_000_000 < buckets {
+    if MAX_BUCKETS < buckets {
         return 1;
     }
     if bins == 0 {
         return 1;
     }
-    if 65_535 < bins {
+    if MAX_BINS < bins {
         return 1;
     }
     if buckets < bins {

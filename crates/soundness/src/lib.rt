@@ -1,4 +1,9 @@
 // The check of a lent table: rules 11 to 16 of document 01. A rule's function says whether the table breaks it.
+use model::limits::BLOCKS;
+use model::limits::MAX_BINS;
+use model::limits::MAX_BLOCKS;
+use model::limits::MAX_BUCKETS;
+use model::limits::MAX_INTERVALS;
 use model::table::Header;
 use std::num::wrapping_sub_u32;
 use table::due_below;
@@ -41,13 +46,13 @@ fn is_outside(limit: u32, x: u32) -> bool
 pub fn header_outside(h: Header) -> bool
     ensures { λ r. ⌜ r ≡ headerOutside h ⌝ }
 {
-    if is_outside(1_000_000_000, h.buckets) {
+    if is_outside(MAX_BUCKETS, h.buckets) {
         return true;
     }
-    if is_outside(65, h.block_count) {
+    if is_outside(MAX_BLOCKS, h.block_count) {
         return true;
     }
-    is_outside(2_081, h.interval_count)
+    is_outside(MAX_INTERVALS, h.interval_count)
 }
 
 // 11: a lent array shorter than its count.
@@ -94,7 +99,7 @@ fn tops_wrong(h: Header, tops: &[u32]) -> bool
         return true;
     }
     let bins = tops[count - 1];
-    if 65_535 < bins {
+    if MAX_BINS < bins {
         return true;
     }
     h.buckets < bins
@@ -151,7 +156,7 @@ fn walked(
     ends: &[u32],
     blocks: &[u32],
     adjustments: &[u32],
-    sums: &mut [u32; 65],
+    sums: &mut [u32; BLOCKS],
 ) -> bool
     requires { ⌜ (IntervalsRight h (now ends) (now blocks))
         × (h .«interval_count» ≤ length (now adjustments))
@@ -177,11 +182,11 @@ fn walked(
 }
 
 // How many buckets each block holds, by sums.
-fn summed(h: Header, ends: &[u32], blocks: &[u32]) -> [u32; 65]
+fn summed(h: Header, ends: &[u32], blocks: &[u32]) -> [u32; BLOCKS]
     requires { ⌜ IntervalsRight h (now ends) (now blocks) ⌝ }
     ensures { λ r. ⌜ Held h (now (ends .entry)) (now (blocks .entry)) r ⌝ }
 {
-    let mut sums = [0u32; 65];
+    let mut sums = [0u32; BLOCKS];
     let mut start: u32 = 0;
     let mut i: usize = 0;
     while i < h.interval_count as usize {
@@ -195,7 +200,7 @@ fn summed(h: Header, ends: &[u32], blocks: &[u32]) -> [u32; 65]
 }
 
 // 15: a block whose intervals hold another number than its due. `sums` is what each block holds.
-fn holdings_wrong(h: Header, tops: &[u32], sums: &[u32; 65]) -> bool
+fn holdings_wrong(h: Header, tops: &[u32], sums: &[u32; BLOCKS]) -> bool
     requires { ⌜ TopsRight h (now tops) ⌝ }
     ensures { λ r. ⌜ ((ends blocks : List ℕ) → Held h ends blocks (now (sums .entry))
         → r ≡ holdingsWrong h (arrays (now (tops .entry)) ends blocks [])) ⌝ }
@@ -230,7 +235,7 @@ pub fn check(h: Header, tops: &[u32], ends: &[u32], blocks: &[u32], adjustments:
     if broken != 0 {
         return broken;
     }
-    let mut sums = [0u32; 65];
+    let mut sums = [0u32; BLOCKS];
     if walked(h, ends, blocks, adjustments, &mut sums) {
         let held = summed(h, ends, blocks);
         if holdings_wrong(h, tops, &held) {
@@ -245,7 +250,13 @@ pub fn check(h: Header, tops: &[u32], ends: &[u32], blocks: &[u32], adjustments:
 }
 
 // Works out the adjustments: an interval's start less what its block holds before it. `sums` is then what each block holds.
-fn adjust(h: Header, ends: &[u32], blocks: &[u32], adjustments: &mut [u32], sums: &mut [u32; 65])
+fn adjust(
+    h: Header,
+    ends: &[u32],
+    blocks: &[u32],
+    adjustments: &mut [u32],
+    sums: &mut [u32; BLOCKS],
+)
     requires { ⌜ (IntervalsRight h (now ends) (now blocks))
         × (h .«interval_count» ≤ length (now adjustments))
         × (now sums ≡ replicate maxBlocks 0) ⌝ }
@@ -283,7 +294,7 @@ pub fn complete(
     if broken != 0 {
         return broken;
     }
-    let mut sums = [0u32; 65];
+    let mut sums = [0u32; BLOCKS];
     adjust(h, ends, blocks, adjustments, &mut sums);
     if holdings_wrong(h, tops, &sums) {
         return 15;

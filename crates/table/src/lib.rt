@@ -1,5 +1,6 @@
 // What every layer reads of a table: the entry before a place, the number of bins, and what bins are due; and the copying of
 // an array.
+use model::limits::INTERVALS;
 use model::table::Header;
 ghost use Prim.Native.Nat.{_+_, _*_, _^_, min, _≤_, _<_};
 ghost use mathlib.Core.Path.{_≡_};
@@ -43,7 +44,7 @@ pub fn copy(from: &[u32], count: usize, to: &mut [u32])
     requires { ⌜ (count ≤ length (now from)) × (count ≤ length (now to)) × (count ≤ maxIntervals) ⌝ }
     ensures { λ _. ⌜ now (to .exit) ≡ over (take count (now (from .entry))) (now (to .entry)) ⌝ }
 {
-    let mut own = [0u32; 2081];
+    let mut own = [0u32; INTERVALS];
     let mut i: usize = 0;
     while i < count {
         own[i] = from[i];
