@@ -1,34 +1,35 @@
 -- Laws of the pages of a move list: rows as numbers, and as lines. Assumes nothing.
-use Prim.Native.Nat.{ℕ, zero, suc, _+_, _*_, _≤_}
-use mathlib.Core.Path.{_≡_, refl, sym, _∙_, ap, ap₂, subst}
+use Prim.Native.Nat.{ℕ, zero, suc, _+_, _*_, _/_, _≤_}
+use mathlib.Core.Path.{_≡_, refl, sym, _∙_, ap, ap₂}
+use mathlib.Core.Bool.{true, false, true≢false}
 use mathlib.Core.List.{List, [], _∷_, _++_, map, map-append, append-nil}
-use mathlib.Core.Logic.{⊎-elim}
+use native.Mathlib.Decide.{ℕ-discrete}
 use native.Mathlib.Nat.{zero-add, add-zero}
 use native.Mathlib.Numerals.{add-one}
 use native.Mathlib.Omega.{arith}
-use lib.ListN.{length, getD, drop, length-append}
+use lib.ListN.{length, getD, take, drop, length-append}
 use lib.Seq.{getD-drop, drop-drop, sets}
-use borrow.Author.Tests.{lt-ltb, le-ltb}
+use borrow.Author.Tests.{le-ltb}
 use Rattle.model.specs.Basics.{if_then_else_, from, joined}
 use Rattle.model.specs.Table.{Shape, Table, over}
 use Rattle.model.specs.Refusal.{first}
 use Rattle.model.specs.Expansion.{expanded}
 use Rattle.model.specs.Relocations.{rows, page}
-use Rattle.model.specs.Calls.{answer, growthTests, orderTests, relocationsAnswer, bufferAfter}
-use Rattle.model.specs.Console.{line}
+use Rattle.model.specs.Calls.{growthTests, orderTests, relocationsAnswer, bufferAfter}
+use Rattle.model.specs.Console.{line, movesOf, moveText}
 use Rattle.model.specs.declared.reply.RelocationsReply.{RelocationsReply}
-use Rattle.model.proofs.Counts.{below-or}
-use Rattle.model.proofs.Refusals.{first-after}
+use Rattle.model.proofs.Refusals.{first-after, accepted, refused}
 use Rattle.model.proofs.Soundness.{growth-numbered}
 use Rattle.model.proofs.Tables.{from-append, length-over}
 use Rattle.model.proofs.Rows.{joined-append}
 use Rattle.model.proofs.Pages.{Fives, fives-length, fives-page, fives-rows, page-length, page-past}
 use Rattle.growth.specs.Replies.{movesRefusal, MovesReply}
+use Rattle.print.specs.Numbers.{moveRoom}
 use Rattle.print.proofs.Lines.{move-short}
-use Rattle.session.specs.Maps.{Maps, mapOf, beforeOf, sessionAt, session, sizesOf, GrownFrom}
-use Rattle.session.specs.declared.state.Stage.the-variants.{Grown}
-use Rattle.console.specs.Listing.{movesOf, moveText, rowAt, rowsIn, Listed}
-use Rattle.console.specs.declared.Page.{Page}
+use Rattle.session.specs.Maps.{Maps, isGrown, mapOf, beforeOf, sessionAt, session, sizesOf, GrownFrom}
+use Rattle.session.specs.declared.state.Stage.{Stage}
+use Rattle.session.specs.declared.state.Stage.the-variants as stage
+use Rattle.console.specs.Listing.{rowAt, rowsIn, Lines, growthRows, Growth, Listed}
 
 -- ROWS AS NUMBERS
 
@@ -82,7 +83,7 @@ text-next xs i =
     ∙ ap (λ l. joined (map (line "move") (from (rowAt xs) 0 i)) ++ l)
     (append-nil (line "move" (rowAt xs (0 + i))) ∙ ap (λ k. line "move" (rowAt xs k)) (zero-add i))
 
-pub text-short : (xs : List ℕ) (i : ℕ) → length (moveText (rowsIn xs i)) ≤ 60 * i
+pub text-short : (xs : List ℕ) (i : ℕ) → length (moveText (rowsIn xs i)) ≤ moveRoom * i
 unfolding moveText rowsIn from joined rowAt
 text-short xs zero = omega arith
 text-short xs (suc i) =
@@ -95,103 +96,115 @@ text-short xs (suc i) =
       row-short xs i,
     )
   where
-    row-short : (xs : List ℕ) (i : ℕ) → length (line "move" (rowAt xs i)) ≤ 60
+    row-short : (xs : List ℕ) (i : ℕ) → length (line "move" (rowAt xs i)) ≤ moveRoom
     row-short xs i = move-short (rowAt xs i) refl
 
--- A PAGE
+text-append : (rs ss : List (List ℕ)) → moveText rs ++ moveText ss ≡ moveText (rs ++ ss)
+unfolding moveText
+text-append rs ss =
+    sym (ap joined (map-append (line "move") rs ss) ∙ joined-append (map (line "move") rs) (map (line "move") ss))
 
--- what the move list of an accepted growth writes, wherever it begins
-pub moves-page
-    : (t : Table) (s : Shape) (q : ℕ) (buffer left : List ℕ) (z : RelocationsReply) → first (growthTests t s) ≡ 0
-    → MovesReply t s q buffer left z
-    → (z .written ≡ length (page q (length buffer) (rows t (expanded t s))))
-    × (left ≡ over (joined (page q (length buffer) (rows t (expanded t s)))) buffer)
-unfolding relocationsAnswer bufferAfter orderTests first answer if_then_else_
-moves-page t s q buffer left z e m =
-    let rs = rows t (expanded t s) in
-    let number : movesRefusal t s q ≡ first (orderTests rs q) = first-after (growthTests t s) _ (growth-numbered t s) e in
-    ⊎-elim
-    (λ l. (
-      ap (λ (y : RelocationsReply). y .written) (m .reply) ∙ rw (number, lt-ltb (length rs) q l) (page-past q rs buffer (omega arith) .0),
-      m .lent ∙ rw (number, lt-ltb (length rs) q l) (page-past q rs buffer (omega arith) .1),
-    ))
-    (λ l. (
-      ap (λ (y : RelocationsReply). y .written) (m .reply) ∙ rw (number, le-ltb (length rs) q l),
-      m .lent ∙ rw (number, le-ltb (length rs) q l),
-    ))
-    (below-or (length rs) q)
+-- a page and the rows behind it make up the list from the page's first row on
+pub pages-whole
+    : (q n : ℕ) (rs : List (List ℕ))
+    → moveText (page q n rs) ++ moveText (drop (q + length (page q n rs)) rs) ≡ moveText (drop q rs)
+unfolding page
+pages-whole q n rs =
+    text-append (take (n / 5) (drop q rs)) (drop (q + length (take (n / 5) (drop q rs))) rs)
+    ∙ ap (λ (ss : List (List ℕ)). moveText (take (n / 5) (drop q rs) ++ ss)) (sym (drop-drop (length (take (n / 5) (drop q rs))) q rs))
+    ∙ ap moveText (page-rest (n / 5) (drop q rs))
+  where
+    page-rest : (n : ℕ) (rs : List (List ℕ)) → take n rs ++ drop (length (take n rs)) rs ≡ rs
+    page-rest zero rs = refl
+    page-rest (suc n) [] = refl
+    page-rest (suc n) (r ∷ rs) = rw (page-rest n rs)
+
+-- A PAGE
 
 rows-five : (t u : Table) → Fives (rows t u)
 unfolding rows
 rows-five t u = fives-rows t u 0 (t .buckets)
 
-length-zero : {A : Type 0} (l : List A) → 0 ≡ length l → l ≡ []
-length-zero [] e = refl
-length-zero (x ∷ l) e = absurd (omega arith)
+-- z is the reply of the move list of a growth, whatever is asked for
+module _ (t : Table) (s : Shape) (q : ℕ) (buffer after : List ℕ) (z : RelocationsReply) (m : MovesReply t s q buffer after z) where
+  abbrev numbers : List (List ℕ)
+  numbers = page q (length buffer) (growthRows t s)
 
--- as many as fit
-page-few : (q n : ℕ) (rs : List (List ℕ)) → 5 * length (page q n rs) ≤ n
-page-few q n rs = omega (arith, page-length q n rs)
+  few : 5 * length numbers ≤ length buffer
+  few = omega (arith, page-length q (length buffer) (growthRows t s))
 
--- the growth from the other table to the map: z is the reply of its move list, asked with the map's sizes
-module _
-    (m : Maps) (g : GrownFrom m) (q : ℕ) (buffer left : List ℕ) (z : RelocationsReply)
-    (r : MovesReply (beforeOf m) (sizesOf (m .state)) q buffer left z)
-  where
-    written
-        : (z .written ≡ length (page q (length buffer) (rows (beforeOf m) (mapOf m))))
-        × (left ≡ over (joined (page q (length buffer) (rows (beforeOf m) (mapOf m)))) buffer)
-    written = rw (← g .made) at (moves-page (beforeOf m) (sizesOf (m .state)) q buffer left z (g .asked) r)
+  five : Fives numbers
+  five = fives-page q (length buffer) _ (rows-five t (expanded t s))
 
-    -- the numbers written, and their lines, have room
-    pub grown-room : (k : ℕ) → 12 * length buffer + 64 ≤ k → (5 * z .written ≤ length left) × (60 * z .written + 64 ≤ k)
-    grown-room k h =
-        let few = page-few q (length buffer) (rows (beforeOf m) (mapOf m)) in
-        omega (
-          arith,
-          written .0,
-          few,
-          ap length (written .1),
-          length-over (joined (page q (length buffer) (rows (beforeOf m) (mapOf m)))) buffer (omega (arith, few, fives)),
-        )
-      where
-        fives
-            : length (joined (page q (length buffer) (rows (beforeOf m) (mapOf m))))
-            ≡ 5 * length (page q (length buffer) (rows (beforeOf m) (mapOf m)))
-        fives = fives-length _ (fives-page q (length buffer) _ (rows-five (beforeOf m) (mapOf m)))
+  -- the numbers written, and their lines, have room
+  pub moves-room : (out : List ℕ) → Lines (length buffer / 5) out → (5 * z .written ≤ length after) × Lines (z .written) out
+  unfolding relocationsAnswer bufferAfter
+  moves-room out h =
+      elim (ℕ-discrete (movesRefusal t s q) 0) [
+        | yes e ↦
+            let written : z .written ≡ length numbers = ap (λ (y : RelocationsReply). y .written) (m .reply ∙ accepted _ _ _ e) in
+            let long : length after ≡ length buffer =
+            ap length (m .lent ∙ accepted _ _ _ e) ∙ length-over (joined numbers) buffer (omega (arith, few, fives-length numbers five)) in
+            omega (arith, few)
+        | no n ↦
+            let written : z .written ≡ 0 = ap (λ (y : RelocationsReply). y .written) (m .reply ∙ refused _ _ _ n) in
+            omega arith
+      ]
 
-    pub grown-listed
-        : (x : ℕ) (old new : List ℕ) → 12 * length buffer + 64 ≤ length old → x ≡ length (moveText (rowsIn left (z .written)))
-        → new ≡ sets old 0 (moveText (rowsIn left (z .written)))
-        → Listed (rows (beforeOf m) (mapOf m)) q buffer left old new (record { rows = z .written; length = x })
-    grown-listed x old new room a b =
+  -- an accepted growth with at least q rows
+  module _ (g : Growth t s q) where
+    unrefused : movesRefusal t s q ≡ 0
+    unfolding orderTests first if_then_else_
+    unrefused = first-after (growthTests t s) _ (growth-numbered t s) (g .0) ∙ rw (le-ltb (length (growthRows t s)) q (g .1))
+
+    replied : z ≡ record { refusal = 0; written = length numbers; total = length (growthRows t s) }
+    unfolding relocationsAnswer
+    replied = m .reply ∙ accepted _ _ _ unrefused
+
+    stored : after ≡ over (joined numbers) buffer
+    unfolding bufferAfter
+    stored = m .lent ∙ accepted _ _ _ unrefused
+
+    same : rowsIn after (z .written) ≡ numbers
+    same = ap₂ rowsIn stored (ap (λ (y : RelocationsReply). y .written) replied) ∙ rows-over numbers buffer five
+
+    pub moves-listed
+        : (x : ℕ) (old new : List ℕ) → Lines (length buffer / 5) old → x ≡ length (moveText (rowsIn after (z .written)))
+        → new ≡ sets old 0 (moveText (rowsIn after (z .written)))
+        → Listed (growthRows t s) q buffer after old new (record { rows = z .written; total = z .total; length = x })
+    moves-listed x old new room a b =
         record {
-          rows = written .0;
-          numbers = written .1;
+          rows = ap (λ (y : RelocationsReply). y .written) replied;
+          total = ap (λ (y : RelocationsReply). y .total) replied;
+          numbers = stored;
           size = a ∙ ap (λ rs. length (moveText rs)) same;
-          fits = omega (arith, a, text-short left (z .written), grown-room (length old) room);
+          fits = omega (arith, a, text-short after (z .written), moves-room old room);
           bytes = b ∙ ap (λ rs. sets old 0 (moveText rs)) same;
         }
-      where
-        same : rowsIn left (z .written) ≡ page q (length buffer) (rows (beforeOf m) (mapOf m))
-        same =
-            ap₂ rowsIn (written .1) (written .0)
-            ∙ rows-over (page q (length buffer) (rows (beforeOf m) (mapOf m))) buffer
-            (fives-page q (length buffer) _ (rows-five (beforeOf m) (mapOf m)))
 
 -- no rows
-pub none-listed
-    : (q : ℕ) (buffer old : List ℕ) → Listed [] q buffer buffer old old (record { rows = 0; length = 0 })
+pub none-listed : (q : ℕ) (buffer old : List ℕ) → Listed [] q buffer buffer old old (record { rows = 0; total = 0; length = 0 })
 unfolding moveText joined
 none-listed q buffer old =
     let none = page-past q [] buffer (omega arith) in
     let empty : page q (length buffer) [] ≡ [] = length-zero _ (none .0) in
-    record { rows = none .0; numbers = none .1; size = rw empty; fits = omega arith; bytes = rw empty }
+    record { rows = none .0; total = refl; numbers = none .1; size = rw empty; fits = omega arith; bytes = rw empty }
+  where
+    length-zero : {A : Type 0} (l : List A) → 0 ≡ length l → l ≡ []
+    length-zero [] e = refl
+    length-zero (x ∷ l) e = absurd (omega arith)
 
--- a map that has grown lists its rows
+-- the rows of a session: of none and of a fresh map none, of a map that has grown those of the growth
+pub moves-none : (m : Maps) → isGrown (m .state .stage) ≡ false → movesOf (session m) ≡ []
+unfolding movesOf session sessionAt isGrown
+moves-none m = at (m .state .stage)
+  where
+    at : (g : Stage) → isGrown g ≡ false → movesOf (sessionAt g (beforeOf m) (mapOf m)) ≡ []
+    at stage.Empty e = refl
+    at stage.Fresh e = refl
+    at stage.Grown e = absurd (true≢false e)
+
 pub moves-grown
-    : (m : Maps) {q : ℕ} {buffer left old new : List ℕ} {r : Page} → m .state .stage ≡ Grown
-    → Listed (rows (beforeOf m) (mapOf m)) q buffer left old new r → Listed (movesOf (session m)) q buffer left old new r
+    : (m : Maps) → m .state .stage ≡ stage.Grown → GrownFrom m → movesOf (session m) ≡ growthRows (beforeOf m) (sizesOf (m .state))
 unfolding movesOf session sessionAt
-moves-grown m {q} {buffer} {left} {old} {new} {r} e l =
-    subst (λ st. Listed (movesOf (sessionAt st (beforeOf m) (mapOf m))) q buffer left old new r) (sym e) l
+moves-grown m e g = ap (λ st. movesOf (sessionAt st (beforeOf m) (mapOf m))) e ∙ ap (rows (beforeOf m)) (g .made)

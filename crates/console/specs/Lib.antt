@@ -1,3 +1,2 @@
 pub mod Rack
 pub mod Listing
-pub mod Claims

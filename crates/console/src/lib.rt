@@ -12,15 +12,9 @@ pub struct Reply {
     pub list: bool,
 }
 
-// A page of the move list: its rows, and the length of its text.
+// A page of the move list: its rows, those of the whole list, and the length of the page's text.
 pub struct Page {
     pub rows: u32,
+    pub total: u32,
     pub length: usize,
 }
-
-ghost use Rattle.console.specs.Claims.{ConsoleClaims};
-
-// What is proved of lines and pages: specs/Claims.antt.
-pub fn claims()
-    ensures { λ _. ⌜ ConsoleClaims ⌝ }
-{}

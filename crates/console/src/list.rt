@@ -7,15 +7,15 @@ ghost use mathlib.Core.Path.{_≡_};
 ghost use Prim.Native.Nat.{_+_, _*_, _≤_};
 ghost use lib.ListN.{length};
 ghost use lib.Seq.{sets};
-ghost use Rattle.model.specs.Lent.{given, arraysNow};
-ghost use Rattle.model.specs.Relocations.{rows as rowsOf};
-ghost use Rattle.session.specs.Maps.{maps, mapOf, beforeOf, session as sessionOf, GrownFrom, Right};
-ghost use Rattle.console.specs.Rack.{rack, held};
-ghost use Rattle.console.specs.Listing.{movesOf, moveText, rowsIn, Listed};
+ghost use Rattle.model.specs.Lent.{LentSound, tableNow, tableGiven};
+ghost use Rattle.model.specs.Console.{moveText};
+ghost use Rattle.session.specs.Maps.{sizesOf};
+ghost use Rattle.console.specs.Rack.{rackNow, rackGiven, RackRight, movesIn};
+ghost use Rattle.console.specs.Listing.{rowsIn, Lines, Room, growthRows, Growth, Lists};
 
 // The lines of the first `count` rows. The place behind them.
 fn put_rows(rows: &[u32], count: usize, out: &mut [u8]) -> usize
-    requires { ⌜ (5 * count ≤ length (now rows)) × (60 * count + 64 ≤ length (now out)) ⌝ }
+    requires { ⌜ (5 * count ≤ length (now rows)) × Lines count (now out) ⌝ }
     ensures place { λ r. ⌜ r ≡ length (moveText (rowsIn (now (rows .entry)) count)) ⌝ }
     ensures bytes { λ _. ⌜ now (out .exit) ≡ sets (now (out .entry)) 0 (moveText (rowsIn (now (rows .entry)) count)) ⌝ }
 {
@@ -38,51 +38,29 @@ fn put_rows(rows: &[u32], count: usize, out: &mut [u8]) -> usize
     at
 }
 
-// A page of the growth from the other table to the map.
+// A page of the growth to the map, from the map before it.
 fn page(
     state: State,
     tops: &[u32],
     ends: &[u32],
     blocks: &[u32],
     adjustments: &[u32],
-    other_tops: &[u32],
-    other_ends: &[u32],
-    other_blocks: &[u32],
-    other_adjustments: &[u32],
     first: u32,
     rows: &mut [u32],
     out: &mut [u8],
 ) -> Page
-    requires { ⌜
-        GrownFrom
-        (maps state
-        (arraysNow tops ends blocks adjustments)
-        (arraysNow «other_tops» «other_ends» «other_blocks» «other_adjustments»))
-        ⌝ }
-    requires { ⌜ 12 * length (now rows) + 64 ≤ length (now out) ⌝ }
-    ensures { λ r.
-        ⌜
-        Listed
-        (rowsOf
-        (beforeOf
-        (maps state
-        (given tops ends blocks adjustments)
-        (given «other_tops» «other_ends» «other_blocks» «other_adjustments»)))
-        (mapOf
-        (maps state
-        (given tops ends blocks adjustments)
-        (given «other_tops» «other_ends» «other_blocks» «other_adjustments»))))
-        first (now (rows .entry)) (now (rows .exit)) (now (out .entry)) (now (out .exit)) r
-        ⌝ }
+    requires { ⌜ LentSound (state .before) tops ends blocks adjustments × Room rows out ⌝ }
+    requires { ⌜ Growth (tableNow (state .before) tops ends blocks adjustments) (sizesOf state) first ⌝ }
+    ensures { λ r. ⌜ Lists (growthRows (tableGiven (state .before) tops ends blocks adjustments) (sizesOf state)) first rows out r ⌝ }
 {
     let current = state.current;
     let before = state.before;
     let reply = growth::relocated(
         before,
-        other_tops,
-        other_ends,
-        other_blocks,
-        other_adjustments,
+        tops,
+        ends,
+        blocks,
+        adjustments,
         current.buckets,
         state.bins,
         first,
@@ -91,61 +69,8 @@ fn page(
     let length = put_rows(rows, reply.written as usize, out);
     Page {
         rows: reply.written,
+        total: reply.total,
         length,
-    }
-}
-
-// A page from order number `first` on: nothing but for a map that has grown.
-fn listed(
-    state: State,
-    tops: &[u32],
-    ends: &[u32],
-    blocks: &[u32],
-    adjustments: &[u32],
-    other_tops: &[u32],
-    other_ends: &[u32],
-    other_blocks: &[u32],
-    other_adjustments: &[u32],
-    first: u32,
-    rows: &mut [u32],
-    out: &mut [u8],
-) -> Page
-    requires { ⌜
-        Right
-        (maps state
-        (arraysNow tops ends blocks adjustments)
-        (arraysNow «other_tops» «other_ends» «other_blocks» «other_adjustments»))
-        ⌝ }
-    requires { ⌜ 12 * length (now rows) + 64 ≤ length (now out) ⌝ }
-    ensures { λ r.
-        ⌜
-        Listed
-        (movesOf
-        (sessionOf
-        (maps state
-        (given tops ends blocks adjustments)
-        (given «other_tops» «other_ends» «other_blocks» «other_adjustments»))))
-        first (now (rows .entry)) (now (rows .exit)) (now (out .entry)) (now (out .exit)) r
-        ⌝ }
-{
-    let stage = state.stage;
-    match stage {
-        Stage::Empty => Page { rows: 0, length: 0 },
-        Stage::Fresh => Page { rows: 0, length: 0 },
-        Stage::Grown => page(
-            state,
-            tops,
-            ends,
-            blocks,
-            adjustments,
-            other_tops,
-            other_ends,
-            other_blocks,
-            other_adjustments,
-            first,
-            rows,
-            out,
-        ),
     }
 }
 
@@ -164,54 +89,33 @@ pub fn list(
     rows: &mut [u32],
     out: &mut [u8],
 ) -> Page
-    requires { ⌜
-        Right
-        (held
-        (rack state
-        (arraysNow tops ends blocks adjustments)
-        (arraysNow «second_tops» «second_ends» «second_blocks» «second_adjustments»)))
-        ⌝ }
-    requires { ⌜ 12 * length (now rows) + 64 ≤ length (now out) ⌝ }
-    ensures { λ r.
-        ⌜
-        Listed
-        (movesOf
-        (sessionOf
-        (held
-        (rack state
-        (given tops ends blocks adjustments)
-        (given «second_tops» «second_ends» «second_blocks» «second_adjustments»)))))
-        first (now (rows .entry)) (now (rows .exit)) (now (out .entry)) (now (out .exit)) r
-        ⌝ }
+    requires { ⌜ RackRight state tops ends blocks adjustments «second_tops» «second_ends» «second_blocks» «second_adjustments» × Room rows out ⌝ }
+    requires { ⌜ first ≤ length (movesIn (rackNow state tops ends blocks adjustments «second_tops» «second_ends» «second_blocks» «second_adjustments»)) ⌝ }
+    ensures { λ r. ⌜ Lists (movesIn (rackGiven state tops ends blocks adjustments «second_tops» «second_ends» «second_blocks» «second_adjustments»)) first rows out r ⌝ }
 {
-    if state.flipped {
-        return listed(
-            state,
-            second_tops,
-            second_ends,
-            second_blocks,
-            second_adjustments,
-            tops,
-            ends,
-            blocks,
-            adjustments,
-            first,
-            rows,
-            out,
-        );
+    let none = Page {
+        rows: 0,
+        total: 0,
+        length: 0,
+    };
+    let stage = state.stage;
+    match stage {
+        Stage::Empty => return none,
+        Stage::Fresh => return none,
+        Stage::Grown => {
+            if state.flipped {
+                return page(state, tops, ends, blocks, adjustments, first, rows, out);
+            }
+            return page(
+                state,
+                second_tops,
+                second_ends,
+                second_blocks,
+                second_adjustments,
+                first,
+                rows,
+                out,
+            );
+        }
     }
-    listed(
-        state,
-        tops,
-        ends,
-        blocks,
-        adjustments,
-        second_tops,
-        second_ends,
-        second_blocks,
-        second_adjustments,
-        first,
-        rows,
-        out,
-    )
 }

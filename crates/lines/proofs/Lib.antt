@@ -3,5 +3,4 @@ pub mod Words
 pub mod Matches
 pub mod Numbers
 pub mod Reading
-pub mod Gathering
 pub mod Cutting

@@ -11,7 +11,7 @@ use lib.Dec.{eqb}
 use borrow.Author.Tests.{eq-eqb, ne-eqb}
 use Rattle.model.specs.Basics.{if_then_else_}
 use Rattle.model.proofs.Counts.{bit-cases}
-use Rattle.lines.specs.Cut.{upTo}
+use Rattle.lines.specs.Words.{upTo}
 
 -- they stand first
 pub span-first : (e : ℕ) (l : List ℕ) → take (length (upTo e l)) l ≡ upTo e l

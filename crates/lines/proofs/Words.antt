@@ -10,8 +10,7 @@ use lib.Dec.{eqb}
 use Rattle.model.specs.Basics.{if_then_else_}
 use Rattle.model.specs.Console.{inFront, wordsOf}
 use Rattle.model.proofs.Counts.{bit-cases}
-use Rattle.lines.specs.Cut.{upTo}
-use Rattle.lines.specs.Words.{wordAt}
+use Rattle.lines.specs.Words.{upTo, wordAt}
 
 -- the words behind the first
 unfoldable pub behind : List ℕ → List (List ℕ)

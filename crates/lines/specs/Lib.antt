@@ -1,3 +1,1 @@
-pub mod Cut
 pub mod Words
-pub mod Claims

@@ -2,55 +2,14 @@
 ghost use Prim.Native.Nat.{_+_, _≤_};
 ghost use mathlib.Core.Path.{_≡_};
 ghost use lib.ListN.{length, take, drop};
-ghost use lib.Seq.{sets};
 ghost use Rattle.model.specs.Console.{same, read as readOf};
-ghost use Rattle.lines.specs.Cut.{upToFeed, fitting};
-ghost use Rattle.lines.specs.Words.{wordAt, numberAt, withTwo};
-ghost use Rattle.lines.specs.Claims.{LinesClaims};
+ghost use Rattle.lines.specs.Words.{upToFeed, wordAt, numberAt, withTwo};
 use model::command::Command;
 
 // The number at a place of a line, and the place of the blank behind it, or the line's length; or no number.
 enum Parsed {
     Number { value: u32, end: usize },
     Other,
-}
-
-// Where a cut stopped, and how many bytes of the line are kept.
-pub struct Gathered {
-    pub at: usize,
-    pub kept: usize,
-}
-
-// What is proved of lines (specs/Claims.antt).
-pub fn claims()
-    ensures { λ _. ⌜ LinesClaims ⌝ }
-{}
-
-// Copies the block from a place on behind the bytes kept of a line, up to the next line feed. Of a line 65 bytes are kept:
-// one of more than 64 is unreadable whatever it says.
-pub fn gather(block: &[u8], from: usize, line: &mut [u8; 65], kept: usize) -> Gathered
-    requires { ⌜ (from ≤ length (now block)) × (kept ≤ 65) ⌝ }
-    ensures { λ r.
-        ⌜
-        (r .at ≡ from + length (upToFeed (drop from (now (block .entry)))))
-        × (r .kept ≡ kept + length (fitting kept (upToFeed (drop from (now (block .entry))))))
-        × (now (line .exit) ≡ sets (now (line .entry)) kept (fitting kept (upToFeed (drop from (now (block .entry))))))
-        ⌝ }
-{
-    let mut at = from;
-    let mut count = kept;
-    while at < block.len() {
-        let c = block[at];
-        if c == b'\n' {
-            break;
-        }
-        at += 1;
-        if count < 65 {
-            line[count] = c;
-            count += 1;
-        }
-    }
-    Gathered { at, kept: count }
 }
 
 // The place of the next line feed of a block from a place on, or the block's length.

@@ -1,4 +1,4 @@
 // The program on an empty input.
 fn main() {
-    serve::run();
+    shell::run();
 }

@@ -1,4 +1,4 @@
 // The program on unreadable lines of every kind, before and after the first map, and on numbers at every limit.
 fn main() {
-    serve::run();
+    shell::run();
 }

@@ -10,7 +10,7 @@ use Rattle.model.specs.Initial.{initial}
 use Rattle.model.specs.Expansion.{newTops, has, dueAfter, someFall, lastBlock, lengthened, gain, pieces, filled, plan, parts, planFor, parted, movedAfter, extended, drained, expanded, differs, moved}
 use Rattle.model.specs.Relocations.{row, rowIf, rows, page}
 use Rattle.model.specs.Calls.{answer, tableTests, sizeTests, growthTests, intervalsFull, tableReply, arraysAfter, initialRefusal, initialReply, initialArrays, expandRefusal, expandReply, expandArrays, relocationsAnswer, bufferAfter, orderTests, rowsOf, relocationsRefusal, relocationsReply, relocationsRows, placeAnswer, findAnswer, binSizeAnswer, placeTests, findTests, binSizeTests, placeReply, findReply, binSizeReply, roomRefusal, roomReply, saveTests, saveRefusal, saveReply, saveBytes, loadTests, loadRefusal, loadReply, loadArrays}
-use Rattle.model.specs.Console.{text, inFront, linesOf, wordsOf, same, digitsOnly, valueFrom, value, isNumber, command, read, digits, decimal, line, noMap, current, isFresh, isUnreadable, commandTests, commandRefusal, moveLines, accepted, acceptedText, after, printed, printedAll, output}
+use Rattle.model.specs.Console.{text, inFront, linesOf, wordsOf, same, digitsOnly, valueFrom, value, isNumber, command, read, digits, decimal, line, noMap, current, isFresh, isUnreadable, commandTests, commandRefusal, movesOf, moveText, accepted, acceptedText, after, printed, printedAll, output}
 use Rattle.model.specs.History.{started, replyOf, next, added, played, handedOn}
 use Rattle.model.specs.Figures.{blank, grown, answered, computed, starred}
 use Rattle.model.specs.Claims.{Figures, Listing}
@@ -27,7 +27,7 @@ unfolding if_then_else_ _and_ _or_ bit sum count all from joined before bins sha
     relocationsRefusal relocationsReply relocationsRows placeAnswer findAnswer binSizeAnswer placeTests findTests
     binSizeTests placeReply findReply binSizeReply roomRefusal roomReply saveTests saveRefusal saveReply saveBytes
     loadTests loadRefusal loadReply loadArrays text inFront linesOf wordsOf same digitsOnly valueFrom value isNumber
-    command read digits decimal line noMap current isFresh isUnreadable commandTests commandRefusal moveLines accepted
+    command read digits decimal line noMap current isFresh isUnreadable commandTests commandRefusal movesOf moveText accepted
     acceptedText after printed printedAll output started replyOf next added played handedOn blank grown
     answered computed starred
 figures = refl
@@ -44,7 +44,7 @@ unfolding if_then_else_ _and_ _or_ bit sum count all from joined before bins sha
     relocationsRefusal relocationsReply relocationsRows placeAnswer findAnswer binSizeAnswer placeTests findTests
     binSizeTests placeReply findReply binSizeReply roomRefusal roomReply saveTests saveRefusal saveReply saveBytes
     loadTests loadRefusal loadReply loadArrays text inFront linesOf wordsOf same digitsOnly valueFrom value isNumber
-    command read digits decimal line noMap current isFresh isUnreadable commandTests commandRefusal moveLines accepted
+    command read digits decimal line noMap current isFresh isUnreadable commandTests commandRefusal movesOf moveText accepted
     acceptedText after printed printedAll output started replyOf next added played handedOn blank grown
     answered computed starred
 listing = refl

@@ -140,11 +140,14 @@ unfoldable pub commandRefusal : Session → Command → ℕ
 commandRefusal s c =
     first ((10, noMap s and not (isFresh c)) ∷ (23, isUnreadable c) ∷ commandTests (current s) c)
 
--- the `move` lines of the latest growth
-unfoldable pub moveLines : Session → List ℕ
-moveLines empty = []
-moveLines (fresh t) = []
-moveLines (grown t u) = joined (map (line "move") (rows t u))
+-- the rows of the latest growth, and the `move` lines of rows
+unfoldable pub movesOf : Session → List (List ℕ)
+movesOf empty = []
+movesOf (fresh t) = []
+movesOf (grown t u) = rows t u
+
+unfoldable pub moveText : List (List ℕ) → List ℕ
+moveText rs = joined (map (line "move") rs)
 
 -- an accepted command: the session after it, and what is printed
 unfoldable pub accepted : Session → Command → Session
@@ -164,7 +167,7 @@ acceptedText s (Grow b n) =
     ∷ [])
 acceptedText s (Where x) = line "place" (placeAt (current s) x .bin ∷ placeAt (current s) x .position ∷ [])
 acceptedText s (At y p) = line "bucket" (foundAt (current s) y p .bucket ∷ [])
-acceptedText s Moves = moveLines s
+acceptedText s Moves = moveText (movesOf s)
 acceptedText s Unreadable = []
 
 -- a line: the session after it, and what is printed; a refused line changes nothing
@@ -175,7 +178,11 @@ unfoldable pub printed : Session → List ℕ → List ℕ
 printed s l =
     answer (commandRefusal s (read l)) (acceptedText s (read l)) (line "refused" (commandRefusal s (read l) ∷ []))
 
--- what is printed for all lines of an input
+-- all lines of an input: the session after them, and what is printed
+unfoldable pub afterAll : Session → List (List ℕ) → Session
+afterAll s [] = s
+afterAll s (l ∷ ls) = afterAll (after s l) ls
+
 unfoldable pub printedAll : Session → List (List ℕ) → List ℕ
 printedAll s [] = []
 printedAll s (l ∷ ls) = printed s l ++ printedAll (after s l) ls

@@ -8,7 +8,7 @@ use lib.ListN.{length, getD, take, length-append}
 use Rattle.model.specs.Basics.{joined}
 use Rattle.model.specs.Console.{text, decimal, line}
 use Rattle.model.proofs.Rows.{joined-append}
-use Rattle.print.specs.Numbers.{numbers}
+use Rattle.print.specs.Numbers.{moveRoom, numbers}
 use Rattle.print.proofs.Decimal.{decimal-short}
 use Rattle.print.proofs.Stores.{take-next}
 
@@ -40,6 +40,6 @@ line-short w ns =
       length-append (text w ++ numbers ns) (10 ∷ []),
     )
 
-pub move-short : (row : List ℕ) → length row ≡ 5 → length (line "move" row) ≤ 60
+pub move-short : (row : List ℕ) → length row ≡ 5 → length (line "move" row) ≤ moveRoom
 unfolding text
 move-short row five = omega (arith, line-short "move" row)

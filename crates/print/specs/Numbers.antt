@@ -4,6 +4,13 @@ use mathlib.Core.List.{List, [], _∷_, _++_, map}
 use Rattle.model.specs.Basics.{joined}
 use Rattle.model.specs.Console.{decimal}
 
+-- the room that a printed line is given, and how long a `move` line is at the most
+abbrev pub lineRoom : ℕ
+lineRoom = 64
+
+abbrev pub moveRoom : ℕ
+moveRoom = 60
+
 -- numbers in decimal, a blank before each
 unfoldable pub numbers : List ℕ → List ℕ
 numbers ns = joined (map (λ n. 32 ∷ decimal n) ns)

@@ -9,7 +9,7 @@ ghost use Prim.Native.Nat.{_+_, _*_, _≤_};
 ghost use lib.ListN.{length};
 ghost use lib.Seq.{sets};
 ghost use Rattle.model.specs.Console.{line};
-ghost use Rattle.print.specs.Numbers.{numbers, lineOf};
+ghost use Rattle.print.specs.Numbers.{lineRoom, numbers, lineOf};
 
 // A word.
 fn put_word(word: &[u8], out: &mut [u8], at: usize) -> usize
@@ -54,7 +54,7 @@ fn put_line(word: &[u8], ns: &[u32], out: &mut [u8], at: usize) -> usize
 
 // An accepted `fresh` or `grow`: a buckets moved, b intervals.
 pub fn put_ok(a: u32, b: u32, out: &mut [u8], at: usize) -> usize
-    requires { ⌜ at + 64 ≤ length (now out) ⌝ }
+    requires { ⌜ at + lineRoom ≤ length (now out) ⌝ }
     ensures place { λ r. ⌜ r ≡ at + length (line "ok" (a ∷ b ∷ [])) ⌝ }
     ensures bytes { λ _. ⌜ now (out .exit) ≡ sets (now (out .entry)) at (line "ok" (a ∷ b ∷ [])) ⌝ }
 {
@@ -63,7 +63,7 @@ pub fn put_ok(a: u32, b: u32, out: &mut [u8], at: usize) -> usize
 
 // A bucket's place: its bin, and its position there.
 pub fn put_place(bin: u32, position: u32, out: &mut [u8], at: usize) -> usize
-    requires { ⌜ at + 64 ≤ length (now out) ⌝ }
+    requires { ⌜ at + lineRoom ≤ length (now out) ⌝ }
     ensures place { λ r. ⌜ r ≡ at + length (line "place" (bin ∷ position ∷ [])) ⌝ }
     ensures bytes { λ _. ⌜ now (out .exit) ≡ sets (now (out .entry)) at (line "place" (bin ∷ position ∷ [])) ⌝ }
 {
@@ -72,7 +72,7 @@ pub fn put_place(bin: u32, position: u32, out: &mut [u8], at: usize) -> usize
 
 // The bucket at a place.
 pub fn put_bucket(bucket: u32, out: &mut [u8], at: usize) -> usize
-    requires { ⌜ at + 64 ≤ length (now out) ⌝ }
+    requires { ⌜ at + lineRoom ≤ length (now out) ⌝ }
     ensures place { λ r. ⌜ r ≡ at + length (line "bucket" (bucket ∷ [])) ⌝ }
     ensures bytes { λ _. ⌜ now (out .exit) ≡ sets (now (out .entry)) at (line "bucket" (bucket ∷ [])) ⌝ }
 {
@@ -81,7 +81,7 @@ pub fn put_bucket(bucket: u32, out: &mut [u8], at: usize) -> usize
 
 // A refused command: the refusal's number.
 pub fn put_refused(refusal: u32, out: &mut [u8], at: usize) -> usize
-    requires { ⌜ at + 64 ≤ length (now out) ⌝ }
+    requires { ⌜ at + lineRoom ≤ length (now out) ⌝ }
     ensures place { λ r. ⌜ r ≡ at + length (line "refused" (refusal ∷ [])) ⌝ }
     ensures bytes { λ _. ⌜ now (out .exit) ≡ sets (now (out .entry)) at (line "refused" (refusal ∷ [])) ⌝ }
 {
@@ -98,7 +98,7 @@ pub fn put_move(
     out: &mut [u8],
     at: usize,
 ) -> usize
-    requires { ⌜ at + 64 ≤ length (now out) ⌝ }
+    requires { ⌜ at + lineRoom ≤ length (now out) ⌝ }
     ensures place { λ r. ⌜ r ≡ at
         + length (line "move" (bucket ∷ «old_bin» ∷ «old_position» ∷ «new_bin» ∷ «new_position» ∷ [])) ⌝ }
     ensures bytes { λ _. ⌜ now (out .exit)

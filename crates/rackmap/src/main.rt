@@ -1,4 +1,4 @@
 // The program rackmap: lines on standard input, replies on standard output.
 fn main() {
-    serve::run();
+    shell::run();
 }

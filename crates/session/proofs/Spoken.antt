@@ -1,10 +1,11 @@
 -- What the program's session holds and prints is document 01's session. Assumes nothing.
+use Prim.Native.Nat.{ℕ}
 use mathlib.Core.Path.{_≡_, refl, sym, _∙_, ap, ap₂}
 use mathlib.Core.Bool.{true, not, true≢false}
-use mathlib.Core.List.{[], _∷_}
+use mathlib.Core.List.{List, [], _∷_, _++_, append-nil}
 use native.Mathlib.Decide.{ℕ-discrete}
 use native.Mathlib.Omega.{arith}
-use Rattle.model.specs.Basics.{_and_}
+use Rattle.model.specs.Basics.{if_then_else_, _and_}
 use Rattle.model.specs.Initial.{initial}
 use Rattle.model.specs.Expansion.{expanded}
 use Rattle.model.specs.Calls.{answer}
@@ -14,8 +15,9 @@ use Rattle.model.specs.declared.command.Command.{Command}
 use Rattle.model.specs.declared.command.Command.the-variants.{Fresh, Grow, Where, At, Moves, Unreadable}
 use Rattle.model.proofs.Refusals.{first-clear, accepted as answer-accepted, refused as answer-refused}
 use Rattle.model.proofs.Tables.{table-written}
-use Rattle.session.specs.Maps.{Maps, mapOf, beforeOf, sessionAt, session, performed, next, accepted, answered, spoken}
+use Rattle.session.specs.Maps.{Maps, mapOf, beforeOf, sessionAt, session, performed, next, accepted, answered, shown, isList, listed}
 use Rattle.session.specs.Claims.{SessionKept, SessionSpoken}
+use Rattle.session.specs.declared.state.Answer.{Answer}
 use Rattle.session.specs.declared.state.Answer.the-variants as says
 use Rattle.session.proofs.Steps.{map-current, has-map}
 
@@ -46,20 +48,32 @@ session-kept m l =
     ]
 
 -- its answer is printed as document 01 prints it
+abbrev spoken : Session → Answer → List ℕ
+spoken s a = shown a ++ listed (isList a) 0 s
+
+-- a line that says nothing is refused
+pub unreadable-refused : (s : Session) → commandRefusal s Unreadable ≡ 0 → ⊥
+unfolding commandRefusal isUnreadable
+unreadable-refused s e =
+    let (none, rest) = first-clear (10, noMap s and not (isFresh Unreadable)) _ (λ z. omega arith) e in
+    true≢false (first-clear (23, true) _ (λ z. omega arith) rest .0)
+
 accepted-spoken
     : (s : Session) (c : Command) → commandRefusal s c ≡ 0 → spoken (acceptedSession s c) (accepted s c) ≡ acceptedText s c
-unfolding spoken acceptedSession accepted acceptedText commandRefusal isUnreadable
-accepted-spoken s (Fresh b n) e = refl
-accepted-spoken s (Grow b n) e = refl
-accepted-spoken s (Where x) e = refl
-accepted-spoken s (At y p) e = refl
+unfolding shown isList listed if_then_else_ acceptedSession accepted acceptedText
+accepted-spoken s (Fresh b n) e = append-nil _
+accepted-spoken s (Grow b n) e = append-nil _
+accepted-spoken s (Where x) e = append-nil _
+accepted-spoken s (At y p) e = append-nil _
 accepted-spoken s Moves e = refl
-accepted-spoken s Unreadable e =
-    let (none, rest) = first-clear (10, noMap s and not (isFresh Unreadable)) _ (λ z. omega arith) e in
-    absurd (true≢false (first-clear (23, true) _ (λ z. omega arith) rest .0))
+accepted-spoken s Unreadable e = absurd (unreadable-refused s e)
+
+refused-spoken : (s : Session) (r : ℕ) → spoken s (says.Refused r) ≡ line "refused" (r ∷ [])
+unfolding shown isList listed if_then_else_
+refused-spoken s r = append-nil _
 
 pub session-spoken : SessionSpoken
-unfolding after printed answered spoken
+unfolding after printed answered
 session-spoken s l =
     elim (ℕ-discrete (commandRefusal s (read l)) 0) [
       | yes e ↦
@@ -68,9 +82,6 @@ session-spoken s l =
           ∙ sym (answer-accepted _ (acceptedText s (read l)) _ e)
       | no n ↦
           ap (spoken (answer (commandRefusal s (read l)) (acceptedSession s (read l)) s)) (answer-refused _ (accepted s (read l)) _ n)
-          ∙ refused-line
+          ∙ refused-spoken _ (commandRefusal s (read l))
           ∙ sym (answer-refused _ (acceptedText s (read l)) _ n)
     ]
-  where
-    refused-line : spoken (answer (commandRefusal s (read l)) (acceptedSession s (read l)) s) (says.Refused (commandRefusal s (read l))) ≡ line "refused" (commandRefusal s (read l) ∷ [])
-    refused-line = refl

@@ -1,18 +1,20 @@
 -- What is proved of a session. Each claim is a type. Assumes nothing.
 use mathlib.Core.Path.{_≡_}
-use mathlib.Core.List.{List}
+use mathlib.Core.List.{List, _++_}
 use Prim.Native.Nat.{ℕ}
 use Rattle.model.specs.Console.{Session, read, after, printed}
 use Rattle.model.specs.declared.command.Command.{Command}
-use Rattle.session.specs.Maps.{Maps, session, next, answered, spoken, Right}
+use Rattle.session.specs.Maps.{Maps, session, next, answered, shown, isList, listed, Right}
 
 -- what a step leaves is document 01's session after the line
 abbrev pub SessionKept : Type 0
 SessionKept = (m : Maps) (l : List ℕ) → session (next m (read l)) ≡ after (session m) l
 
--- what is printed for a step's answer is what document 01 prints for the line
+-- what a step's answer prints, with the `move` lines where they follow, is what document 01 prints for the line
 abbrev pub SessionSpoken : Type 0
-SessionSpoken = (s : Session) (l : List ℕ) → spoken (after s l) (answered s (read l)) ≡ printed s l
+SessionSpoken =
+    (s : Session) (l : List ℕ)
+    → shown (answered s (read l)) ++ listed (isList (answered s (read l))) 0 (after s l) ≡ printed s l
 
 -- every step keeps the invariant: room in both tables, and a sound map
 abbrev pub SessionRight : Type 0

@@ -3,7 +3,7 @@ use Prim.Native.Nat.{ℕ}
 use mathlib.Core.Path.{_≡_}
 use mathlib.Core.Bool.{Bool, true, false, not}
 use mathlib.Core.List.{List, [], _∷_}
-use lib.ListN.{length}
+use lib.ListN.{length, drop}
 use lib.Dec.{eqb}
 use Rattle.model.specs.Basics.{if_then_else_, _and_}
 use Rattle.model.specs.Table.{Shape, Table, Arrays, table, header, written, sizes}
@@ -13,7 +13,7 @@ use Rattle.model.specs.Sound.{Sound}
 use Rattle.model.specs.Initial.{initial}
 use Rattle.model.specs.Expansion.{expanded, moved}
 use Rattle.model.specs.Calls.{answer, growthTests}
-use Rattle.model.specs.Console.{Session, empty, fresh, grown, current, commandRefusal, line, moveLines}
+use Rattle.model.specs.Console.{Session, empty, fresh, grown, current, commandRefusal, line, movesOf, moveText}
 use Rattle.model.specs.declared.command.Command.{Command}
 use Rattle.model.specs.declared.command.Command.the-variants.{Fresh, Grow, Where, At, Moves, Unreadable}
 use Rattle.session.specs.declared.state.Stage.{Stage}
@@ -108,13 +108,24 @@ accepted s Unreadable = says.Refused 23
 unfoldable pub answered : Session → Command → Answer
 answered s c = answer (commandRefusal s c) (accepted s c) (says.Refused (commandRefusal s c))
 
--- what is printed for an answer, in the session after the command
-unfoldable pub spoken : Session → Answer → List ℕ
-spoken s (says.Refused r) = line "refused" (r ∷ [])
-spoken s (says.Table m k) = line "ok" (m ∷ k ∷ [])
-spoken s (says.Place y p) = line "place" (y ∷ p ∷ [])
-spoken s (says.Bucket x) = line "bucket" (x ∷ [])
-spoken s says.Moves = moveLines s
+-- what an answer prints at once, and whether the `move` lines of the latest growth follow
+unfoldable pub shown : Answer → List ℕ
+shown (says.Refused r) = line "refused" (r ∷ [])
+shown (says.Table m k) = line "ok" (m ∷ k ∷ [])
+shown (says.Place y p) = line "place" (y ∷ p ∷ [])
+shown (says.Bucket x) = line "bucket" (x ∷ [])
+shown says.Moves = []
+
+unfoldable pub isList : Answer → Bool
+isList (says.Refused r) = false
+isList (says.Table m k) = false
+isList (says.Place y p) = false
+isList (says.Bucket x) = false
+isList says.Moves = true
+
+-- those lines from row q on, where they follow
+unfoldable pub listed : Bool → ℕ → Session → List ℕ
+listed follow q s = if follow then moveText (drop q (movesOf s)) else []
 
 -- a step r from m by the command c, which leaves the arrays a (that were the map's) and b (that were the other table's)
 pub record Stepped (m : Maps) (c : Command) (r : Step) (a b : Arrays) : Type 0 where

@@ -1,6 +1,6 @@
 -- `console::list::page` meets its contract. Assumes nothing.
-use Rattle.session.specs.Maps.{mapOf, beforeOf, sizesOf}
-use Rattle.console.proofs.Rows.{grown-room, grown-listed}
+use Rattle.session.specs.Maps.{sizesOf}
+use Rattle.console.proofs.Rows.{moves-room, moves-listed}
 use borrow.Author.Needs.{needs}
 use Rattle.console.proofs.list.page.Statement.{statement}
 use Rattle.console.proofs.list.page.Tie as tie
@@ -12,9 +12,7 @@ cast-put-rows : tie.Need-cast-put-rows
 cast-put-rows c = search needs
 
 put-rows-requires : tie.Need-put-rows-requires
-unfolding mapOf beforeOf sizesOf
-put-rows-requires c κs =
-    grown-room _ (c .before .before .before .before .before .before .before .before .before .before .before .before .before .before .before .before .before .before .before .pre .0) _ _ _ _ (c .before .before .before .before .before .relocated .ensures) _ (c .before .before .before .before .before .before .before .before .before .before .before .before .before .before .before .before .before .before .before .pre .1)
+put-rows-requires c κs = moves-room _ _ _ _ _ _ (c .before .before .before .before .before .relocated .ensures) (c .before .before .before .before .before .before .before .before .before .before .before .before .before .before .before .args .out .now) (c .before .before .before .before .before .before .before .before .before .before .before .before .before .before .before .pre .0 .1)
 
 same-length : tie.Need-same-length
 same-length c = search needs
@@ -23,12 +21,11 @@ same-length-2 : tie.Need-same-length-2
 same-length-2 c = search needs
 
 returns : tie.Need-returns
-unfolding mapOf beforeOf sizesOf
+unfolding sizesOf
 returns c =
-    grown-listed _ (c .before .before .before .before .before .before .before .before .before .before .before .before .before .before .before .before .before .before .before .before .before .before .pre .0) _ _ _ _ (c .before .before .before .before .before .before .before .before .relocated .ensures)
-    _ _ _ (c .before .before .before .before .before .before .before .before .before .before .before .before .before .before .before .before .before .before .before .before .before .before .pre .1) (c .before .before .put-rows .ensures .0) (c .before .before .put-rows .ensures .1)
+    let pre = c .before .before .before .before .before .before .before .before .before .before .before .before .before .before .before .before .before .before .pre in
+    let text = c .before .before .put-rows .ensures in
+    moves-listed _ _ _ _ _ _ (c .before .before .before .before .before .before .before .before .relocated .ensures) (pre .1) _ _ _ (pre .0 .1) (text .0) (text .1)
 
 pub page-spec : {M : Type 1} → statement M
-page-spec =
-    tie.close
-    (tie.spec relocated-requires cast-put-rows put-rows-requires same-length same-length-2 returns)
+page-spec = tie.close (tie.spec relocated-requires cast-put-rows put-rows-requires same-length same-length-2 returns)

@@ -4,7 +4,8 @@ use mathlib.Core.Path.{_≡_, refl}
 use native.Mathlib.Omega.{arith}
 use Rattle.model.specs.Basics.{from, joined}
 use Rattle.model.proofs.Entries.{Put, put-none, put-length, put-more}
-use Rattle.console.specs.Listing.{moveText, rowsIn}
+use Rattle.model.specs.Console.{moveText}
+use Rattle.console.specs.Listing.{rowsIn}
 use Rattle.console.proofs.Rows.{row-at, text-next, text-short}
 use Rattle.console.proofs.list.put_rows.Statement.{statement}
 use Rattle.console.proofs.list.put_rows.Tie as tie

@@ -1,5 +1,5 @@
 -- `console::step::step` meets its contract: the map in the second table, or in the first. Assumes nothing.
-use Rattle.console.proofs.Serving.{first-right, second-right, first-told, second-told}
+use Rattle.console.proofs.Serving.{first-right, second-right, first-served, second-served}
 use borrow.Author.Needs.{needs}
 use Rattle.console.proofs.step.step.Statement.{statement}
 use Rattle.console.proofs.step.step.Tie as tie
@@ -42,8 +42,7 @@ same-length-9 c = search needs
 
 returns : tie.Need-returns
 returns c =
-    let t = second-told _ _ _ _ _ _ _ (c .before .before .before .before .before .before .before .before .before .before .before .before .before .before .before .before .before .before .before .before .before .before .before .before .before .before .before .before .before .before .read .ensures) _ _ _ _ _ (c .before .before .reply .ensures .0) (c .before .before .reply .ensures .1) (c .before .before .before .before .before .before .before .before .before .before .before .before .before .before .before .before .before .before .before .before .before .before .before .before .before .before .before .before .before .if1 .taken) (c .before .before .before .before .before .before .before .before .before .before .before .before .before .before .before .before .before .before .before .before .act .ensures) in
-    (t .served, (t .place, t .bytes))
+    second-served _ _ _ _ _ _ _ (c .before .before .before .before .before .before .before .before .before .before .before .before .before .before .before .before .before .before .before .before .before .before .before .before .before .before .before .before .before .before .read .ensures) _ _ _ _ _ (c .before .before .reply .ensures .0) (c .before .before .reply .ensures .1) (c .before .before .before .before .before .before .before .before .before .before .before .before .before .before .before .before .before .before .before .before .before .before .before .before .before .before .before .before .before .if1 .taken) (c .before .before .before .before .before .before .before .before .before .before .before .before .before .before .before .before .before .before .before .before .act .ensures)
 
 act-requires-2 : tie.Need-act-requires-2
 act-requires-2 c κs = first-right _ _ _ (c .before .before .before .before .before .before .before .before .if1 .left) (c .before .before .before .before .before .before .before .before .before .before .before .before .before .before .before .before .before .before .before .before .pre .1)
@@ -80,8 +79,7 @@ same-length-18 c = search needs
 
 returns-2 : tie.Need-returns-2
 returns-2 c =
-    let t = first-told _ _ _ _ _ _ _ (c .before .before .before .before .before .before .before .before .before .before .before .before .before .before .before .before .before .before .before .before .before .before .before .before .before .before .before .before .before .before .read .ensures) _ _ _ _ _ (c .before .before .reply2 .ensures .0) (c .before .before .reply2 .ensures .1) (c .before .before .before .before .before .before .before .before .before .before .before .before .before .before .before .before .before .before .before .before .before .before .before .before .before .before .before .before .before .if1 .left) (c .before .before .before .before .before .before .before .before .before .before .before .before .before .before .before .before .before .before .before .before .act2 .ensures) in
-    (t .served, (t .place, t .bytes))
+    first-served _ _ _ _ _ _ _ (c .before .before .before .before .before .before .before .before .before .before .before .before .before .before .before .before .before .before .before .before .before .before .before .before .before .before .before .before .before .before .read .ensures) _ _ _ _ _ (c .before .before .reply2 .ensures .0) (c .before .before .reply2 .ensures .1) (c .before .before .before .before .before .before .before .before .before .before .before .before .before .before .before .before .before .before .before .before .before .before .before .before .before .before .before .before .before .if1 .left) (c .before .before .before .before .before .before .before .before .before .before .before .before .before .before .before .before .before .before .before .before .act2 .ensures)
 
 pub step-spec : {M : Type 1} → statement M
 step-spec =

@@ -1,0 +1,4 @@
+pub mod Going
+pub mod Folding
+pub mod Receiving
+pub mod Turning

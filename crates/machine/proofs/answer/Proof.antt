@@ -1,0 +1,102 @@
+-- `machine::answer` meets its contract. The loop's invariant: the machine has gone on, and no list is in progress. Assumes nothing.
+use Prim.Native.Nat.{_-_}
+use mathlib.Core.Path.{_≡_, refl}
+use mathlib.Core.Bool.{false}
+use native.Mathlib.Omega.{arith}
+use lib.ListN.{length}
+use borrow.Author.Needs.{needs}
+use Rattle.model.specs.Table.{arrays}
+use Rattle.console.specs.Rack.{rack}
+use Rattle.machine.specs.Machine.{Went}
+use Rattle.machine.proofs.Turning.{went-none, went-then, end-within, line-none, line-went, answers-done, answers-more}
+use Rattle.machine.proofs.answer.Statement.{statement}
+use Rattle.machine.proofs.answer.Tie as tie
+use Rattle.machine.proofs.answer.Reads as reads
+use Rattle.machine.proofs.answer.Lts as lts
+use Rattle.console.proofs.step.step.Reads as step-reads
+use Rattle.lines.proofs.feed_at.Reads as feed-at-reads
+
+abbrev Inv-loop : tie.InvT-loop
+Inv-loop block tops₀ ends₀ blocks₀ adjustments₀ second-tops₀ second-ends₀ second-blocks₀ second-adjustments₀ put out₀ m₀ put₀ tops ends blocks adjustments second-tops second-ends second-blocks second-adjustments out m put' =
+    Went m₀
+    (rack (m₀ .state) (arrays tops₀ ends₀ blocks₀ adjustments₀) (arrays second-tops₀ second-ends₀ second-blocks₀ second-adjustments₀))
+    block put out₀ m
+    (rack (m .state) (arrays tops ends blocks adjustments) (arrays second-tops second-ends second-blocks second-adjustments))
+    put' out
+    × (m .listing ≡ false)
+
+abbrev μ-loop : tie.MeasureT-loop
+μ-loop block tops₀ ends₀ blocks₀ adjustments₀ second-tops₀ second-ends₀ second-blocks₀ second-adjustments₀ put out₀ m₀ put₀ tops ends blocks adjustments second-tops second-ends second-blocks second-adjustments out m put' =
+    length block - m .from
+
+loop-holds : tie.Need-loop-holds Inv-loop μ-loop
+loop-holds c = let pre = c .before .pre in (went-none _ _ _ _ _ (pre .1) (pre .0 .2) (pre .0 .1), pre .0 .0)
+
+feed-at-requires : tie.Need-feed-at-requires Inv-loop μ-loop
+feed-at-requires c κs = c .before .loop .inv .0 .within
+
+returns : tie.Need-returns Inv-loop μ-loop
+returns c =
+    let inv = c .before .before .before .loop .inv in
+    answers-done (inv .0) (line-none _ _ _ _ (inv .1) (inv .0 .within) (c .before .feed-at .ensures) (c .if1 .taken))
+
+add-behind : tie.Need-add-behind Inv-loop μ-loop
+add-behind c = let inv = c .before .before .before .loop .inv in omega (arith, end-within _ _ _ (inv .0 .within) (c .before .feed-at .ensures))
+
+sub-step : tie.Need-sub-step Inv-loop μ-loop
+sub-step c = omega (arith, c .before .before .feed-at .ensures)
+
+part-step-start : tie.Need-part-step-start Inv-loop μ-loop
+part-step-start c = let inv = c .before .before .before .before .loop .inv in omega (arith, inv .0 .within)
+
+part-step-end : tie.Need-part-step-end Inv-loop μ-loop
+part-step-end c = let inv = c .before .before .before .before .loop .inv in omega (arith, inv .0 .within, end-within _ _ _ (inv .0 .within) (c .before .before .feed-at .ensures))
+
+step-requires : tie.Need-step-requires Inv-loop μ-loop
+step-requires c κs = (omega arith, c .before .before .before .before .before .before .before .before .before .before .before .before .before .before .loop .inv .0 .sane .right)
+
+loop-less : tie.Need-loop-less Inv-loop μ-loop
+loop-less c =
+    let cut = c .before .before .before .before .before .before .before .before .before .before .before .before .before .before in
+    let inv = cut .before .before .before .loop .inv in
+    omega (arith, cut .before .feed-at .ensures, cut .if1 .left, end-within _ _ _ (inv .0 .within) (cut .before .feed-at .ensures))
+
+loop-again : tie.Need-loop-again Inv-loop μ-loop
+loop-again c =
+    let cut = c .before .before .before .before .before .before .before .before .before .before .before .before .before .before in
+    let inv = cut .before .before .before .loop .inv in
+    let line =
+    line-went _ _ _ _ (inv .1) (inv .0 .within) (cut .before .feed-at .ensures) _ _ _ _ _ _ _ (cut .if1 .left) refl (inv .0 .sane)
+    (omega arith) (c .before .before .step .ensures) in
+    (went-then (inv .0) line, c .if2 .left)
+
+returns-2 : tie.Need-returns-2 Inv-loop μ-loop
+returns-2 c = answers-more (c .before .loop .inv .0) (omega (arith, c .before .loop .inv .0 .onward, c .loop-test .left))
+
+returns-3 : tie.Need-returns-3 Inv-loop μ-loop
+returns-3 c =
+    let cut = c .before .before .before .before .before .before .before .before .before .before .before .before .before .before in
+    let inv = cut .before .before .before .loop .inv in
+    let line =
+    line-went _ _ _ _ (inv .1) (inv .0 .within) (cut .before .feed-at .ensures) _ _ _ _ _ _ _ (cut .if1 .left) refl (inv .0 .sane)
+    (omega arith) (c .before .before .step .ensures) in
+    answers-more (went-then (inv .0) line) (omega (arith, inv .0 .onward, line .onward))
+
+pub answer-spec : {M : Type 1} → statement M
+answer-spec =
+    tie.close
+    (tie.spec
+    Inv-loop
+    μ-loop
+    loop-holds
+    feed-at-requires
+    returns
+    add-behind
+    sub-step
+    part-step-start
+    part-step-end
+    step-requires
+    loop-less
+    loop-again
+    returns-2
+    returns-3)

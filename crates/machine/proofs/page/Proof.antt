@@ -1,0 +1,25 @@
+-- `machine::page` meets its contract. Assumes nothing.
+use native.Mathlib.Omega.{arith}
+use Rattle.machine.proofs.Turning.{page-row, paged, page-none}
+use Rattle.machine.proofs.page.Statement.{statement}
+use Rattle.machine.proofs.page.Tie as tie
+
+list-requires : tie.Need-list-requires
+list-requires c κs =
+    let pre = c .before .before .before .before .before .before .before .before .before .before .before .before .pre in
+    ((pre .right, omega arith), pre .row (c .before .before .before .before .before .before .before .before .before .before .if1 .taken))
+
+add-row : tie.Need-add-row
+add-row c = omega (arith, page-row _ _ _ _ _ _ _ (c .before .before .before .before .before .before .before .before .before .before .before .before .before .if1 .taken) (c .before .before .before .before .before .before .before .before .before .before .before .before .before .before .before .pre) (c .before .before .list .ensures))
+
+sub-left : tie.Need-sub-left
+sub-left c = page-row _ _ _ _ _ _ _ (c .before .before .before .before .before .before .before .before .before .before .before .before .before .before .if1 .taken) (c .before .before .before .before .before .before .before .before .before .before .before .before .before .before .before .before .pre) (c .before .before .before .list .ensures)
+
+returns : tie.Need-returns
+returns c = paged _ _ _ _ _ _ _ (c .before .before .before .before .before .before .before .before .before .before .before .before .before .before .if1 .taken) (c .before .before .before .before .before .before .before .before .before .before .before .before .before .before .before .before .pre) (c .before .before .before .list .ensures) (omega arith)
+
+returns-2 : tie.Need-returns-2
+returns-2 c = page-none _ _ _ (c .if1 .left) (c .before .before .pre)
+
+pub page-spec : {M : Type 1} → statement M
+page-spec = tie.close (tie.spec list-requires add-row sub-left returns returns-2)

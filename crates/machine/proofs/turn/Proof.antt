@@ -1,0 +1,67 @@
+-- `machine::turn` meets its contract: a page, the lines, and the unfinished line kept. Assumes nothing.
+use mathlib.Core.Path.{sym}
+use lib.Seq.{length-take-le}
+use Rattle.machine.proofs.Turning.{page-turns, page-size, page-answers, lines-turns, lines-places, kept-turns}
+use borrow.Author.Needs.{needs}
+use Rattle.machine.proofs.turn.Statement.{statement}
+use Rattle.machine.proofs.turn.Tie as tie
+use Rattle.machine.proofs.turn.Reads as reads
+use Rattle.machine.proofs.turn.Lts as lts
+use Rattle.machine.proofs.answer.Reads as answer-reads
+use Rattle.machine.proofs.keep.Reads as keep-reads
+use Rattle.machine.proofs.page.Reads as page-reads
+
+page-requires : tie.Need-page-requires
+page-requires c κs = search needs
+
+returns : tie.Need-returns
+returns c = page-turns (c .before .before .before .before .before .before .before .before .before .before .before .before .before .pre) (c .before .page .ensures) (c .if1 .taken)
+
+slice-reshare-prefix-answer : tie.Need-slice-reshare-prefix-answer
+slice-reshare-prefix-answer c = page-size (c .before .before .before .before .before .before .before .before .before .before .before .before .before .before .pre) (c .before .before .page .ensures)
+
+slice-aggregate-answer : tie.Need-slice-aggregate-answer
+slice-aggregate-answer c = sym (length-take-le _ _ (page-size (c .before .before .before .before .before .before .before .before .before .before .before .before .before .before .before .pre) (c .before .before .before .page .ensures)))
+
+answer-requires : tie.Need-answer-requires
+answer-requires c κs =
+    let page = c .before .before .before .before .before .before .before .before .before .before .before in
+    page-answers (page .before .before .before .before .before .before .before .before .before .before .before .before .before .pre) (page .before .page .ensures) (page .if1 .left)
+
+same-length : tie.Need-same-length
+same-length c = search needs
+
+returns-2 : tie.Need-returns-2
+returns-2 c =
+    let page = c .before .before .before .before .before .before .before .before .before .before .before .before .before in
+    lines-turns (page .before .before .before .before .before .before .before .before .before .before .before .before .before .pre) (page .before .page .ensures) (c .before .answer .ensures) (c .if2 .taken)
+
+keep-requires : tie.Need-keep-requires
+keep-requires c κs =
+    let page = c .before .before .before .before .before .before .before .before .before .before .before .before .before .before .before in
+    lines-places (page .before .before .before .before .before .before .before .before .before .before .before .before .before .pre) (page .before .page .ensures) (c .before .before .before .answer .ensures)
+
+same-length-2 : tie.Need-same-length-2
+same-length-2 c = search needs
+
+returns-3 : tie.Need-returns-3
+returns-3 c =
+    let page = c .before .before .before .before .before .before .before .before .before .before .before .before .before .before .before .before .before .before in
+    let lines = c .before .before .before .before .before in
+    kept-turns (page .before .before .before .before .before .before .before .before .before .before .before .before .before .pre) (page .before .page .ensures) (lines .before .answer .ensures) (lines .if2 .left)
+    _ _ (c .before .before .keep .ensures .0) (c .before .before .keep .ensures .1)
+
+pub turn-spec : {M : Type 1} → statement M
+turn-spec =
+    tie.close
+    (tie.spec
+    page-requires
+    returns
+    slice-reshare-prefix-answer
+    slice-aggregate-answer
+    answer-requires
+    same-length
+    returns-2
+    keep-requires
+    same-length-2
+    returns-3)

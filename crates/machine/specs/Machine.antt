@@ -1,0 +1,115 @@
+-- A machine as the code holds it. Assumes nothing.
+use Prim.Native.Nat.{ℕ, _+_, _*_, _≤_, _<_}
+use mathlib.Core.Path.{_≡_}
+use mathlib.Core.Bool.{true, false}
+use mathlib.Core.List.{List, []}
+use lib.ListN.{length, take, drop}
+use Rattle.model.specs.Table.{Arrays}
+use Rattle.model.specs.Lent.{Lent, Lents}
+use Rattle.model.specs.Refusal.{roomShort}
+use Rattle.lines.specs.Words.{upToFeed}
+use Rattle.session.specs.Maps.{session, Right}
+use Rattle.console.specs.Rack.{Rack, rack, held, rackNow, rackGiven, rackLeft, movesIn}
+use Rattle.machine.specs.Standing.{Standing, beginning, Goes, Idle, Turned, received}
+use Rattle.machine.specs.declared.Machine.{Machine}
+use Rattle.machine.specs.declared.After.{After}
+
+-- the bytes kept of an unfinished line: more than a readable line has
+abbrev pub keptBytes : ℕ
+keptBytes = 65
+
+-- where a machine stands in the bytes that are read
+unfoldable pub stands : Machine → Rack → List ℕ → Standing
+stands m k bytes = record { listing = m .listing; row = m .row; session = session (held k); rest = drop (m .from) bytes }
+
+-- the bytes that are read, of a block
+abbrev pub bytesOf : Machine → List ℕ → List ℕ
+bytesOf m block = take (m .size) block
+
+-- what every machine of a run has: sound tables, a row of the list in progress, and places within the block
+pub record Sane (m : Machine) (k : Rack) : Type 0 where
+  pub right : Right (held k)
+  pub row : m .listing ≡ true → m .row ≤ length (movesIn k)
+
+pub record Ready (m : Machine) (k : Rack) (block : List ℕ) : Type 0 where
+  pub sane : Sane m k
+  pub from : m .from ≤ m .size
+  pub size : m .size ≤ length block
+
+-- nothing is left to do, whatever the tables hold: no list is in progress, and few bytes of an unfinished line are left
+pub record Rests (m : Machine) (block : List ℕ) : Type 0 where
+  pub listing : m .listing ≡ false
+  pub rest : upToFeed (drop (m .from) (bytesOf m block)) ≡ drop (m .from) (bytesOf m block)
+  pub few : m .size ≤ keptBytes
+
+-- a machine that begins, whatever the two tables and the block hold
+pub record Begins (r : Machine) : Type 0 where
+  pub stands : (one two : Arrays) (block : List ℕ) → stands r (rack (r .state) one two) (bytesOf r block) ≡ beginning
+  pub ready
+      : (one two : Arrays) (block : List ℕ) → roomShort one ≡ false → roomShort two ≡ false
+      → Ready r (rack (r .state) one two) block
+  pub rests : (block : List ℕ) → Rests r block
+
+-- `got` bytes received behind those that are read
+pub record Receives (m : Machine) (got : ℕ) (block : List ℕ) (r : Machine) (block′ : List ℕ) : Type 0 where
+  pub stands
+      : (one two : Arrays)
+      → stands r (rack (r .state) one two) (bytesOf r block′)
+      ≡ received (take got (drop (m .size) block)) (stands m (rack (m .state) one two) (bytesOf m block))
+  pub ready
+      : (one two : Arrays) → Ready m (rack (m .state) one two) block → Ready r (rack (r .state) one two) block′
+
+-- the machine has gone on in the bytes that are read, with `put` bytes in the buffer before and `put′` after
+pub record Went
+    (m : Machine) (k : Rack) (bytes : List ℕ) (put : ℕ) (out : List ℕ) (m′ : Machine) (k′ : Rack) (put′ : ℕ) (out′ : List ℕ)
+    : Type 0
+  where
+    pub goes : Goes (take put out) (stands m k bytes) (take put′ out′) (stands m′ k′ bytes)
+    pub sane : Sane m′ k′
+    pub room : put′ ≤ length out′
+    pub size : m′ .size ≡ m .size
+    pub onward : m .from ≤ m′ .from
+    pub within : m′ .from ≤ length bytes
+
+-- a page of the list in progress, if there is one, put into the empty buffer; whatever is read
+pub record Pages (m : Machine) (k : Rack) (out : List ℕ) (r : After) (k′ : Rack) (out′ : List ℕ) : Type 0 where
+  pub went : (bytes : List ℕ) → m .from ≤ length bytes → Went m k bytes 0 out (r .machine) k′ (r .put) out′
+  pub done : r .more ≡ false → r .machine .listing ≡ false
+  pub more : r .more ≡ true → 0 < r .put
+
+-- the lines of the bytes answered
+pub record Answers (m : Machine) (k : Rack) (bytes : List ℕ) (put : ℕ) (out : List ℕ) (r : After) (k′ : Rack) (out′ : List ℕ) : Type 0 where
+  pub went : Went m k bytes put out (r .machine) k′ (r .put) out′
+  pub done : r .more ≡ false → Idle (stands (r .machine) k′ bytes)
+  pub more : r .more ≡ true → m .from < r .machine .from + r .put
+
+-- a turn of the machine
+pub record Turns (m : Machine) (k : Rack) (block : List ℕ) (r : After) (k′ : Rack) (block′ out : List ℕ) : Type 0 where
+  pub turned
+      : Turned (stands m k (bytesOf m block)) (take (r .put) out) (r .more) (stands (r .machine) k′ (bytesOf (r .machine) block′))
+  pub ready : Ready (r .machine) k′ block′
+  pub room : r .put ≤ length out
+  pub rests : r .more ≡ false → Rests (r .machine) block′
+
+-- the same of lent arrays
+abbrev pub SaneNow : Machine → Lent → Lent → Lent → Lent → Lent → Lent → Lent → Lent → Type 0
+SaneNow m t e b a t₂ e₂ b₂ a₂ = Sane m (rackNow (m .state) t e b a t₂ e₂ b₂ a₂)
+
+abbrev pub ReadyNow : Machine → Lent → Lent → Lent → Lent → Lent → Lent → Lent → Lent → Lent → Type 0
+ReadyNow m block t e b a t₂ e₂ b₂ a₂ = Ready m (rackNow (m .state) t e b a t₂ e₂ b₂ a₂) (block .now)
+
+abbrev pub PutsPage : Machine → Lents → Lents → Lents → Lents → Lents → Lents → Lents → Lents → Lents → After → Type 0
+PutsPage m t e b a t₂ e₂ b₂ a₂ out r =
+    Pages m (rackGiven (m .state) t e b a t₂ e₂ b₂ a₂) (out .entry .now) r
+    (rackLeft (r .machine .state) t e b a t₂ e₂ b₂ a₂) (out .exit .now)
+
+abbrev pub AnswersLines
+    : Machine → Lents → Lents → Lents → Lents → Lents → Lents → Lents → Lents → Lents → ℕ → Lents → After → Type 0
+AnswersLines m block t e b a t₂ e₂ b₂ a₂ put out r =
+    Answers m (rackGiven (m .state) t e b a t₂ e₂ b₂ a₂) (block .entry .now) put (out .entry .now) r
+    (rackLeft (r .machine .state) t e b a t₂ e₂ b₂ a₂) (out .exit .now)
+
+abbrev pub MakesTurn : Machine → Lents → Lents → Lents → Lents → Lents → Lents → Lents → Lents → Lents → Lents → After → Type 0
+MakesTurn m block t e b a t₂ e₂ b₂ a₂ out r =
+    Turns m (rackGiven (m .state) t e b a t₂ e₂ b₂ a₂) (block .entry .now) r
+    (rackLeft (r .machine .state) t e b a t₂ e₂ b₂ a₂) (block .exit .now) (out .exit .now)

@@ -1,0 +1,295 @@
+// The program without its input and output: a machine that is given blocks of bytes, and puts what it prints into a buffer.
+use console::list::list;
+use console::step::step;
+use lines::feed_at;
+use model::table::Header;
+use session::state::Stage;
+use session::state::State;
+ghost use mathlib.Core.Path.{_≡_};
+ghost use mathlib.Core.Bool.{false};
+ghost use Prim.Native.Nat.{_+_, _≤_, _<_};
+ghost use lib.ListN.{length, take, drop};
+ghost use Rattle.model.specs.Table.{over};
+ghost use Rattle.machine.specs.Claims.{OutputWhole};
+ghost use Rattle.machine.specs.Machine.{keptBytes, Rests, Begins, Receives, SaneNow, ReadyNow, PutsPage, AnswersLines, MakesTurn};
+
+// The bytes kept of an unfinished line: more than a readable line has.
+pub const KEPT: usize = 65;
+
+// A block: what is kept of an unfinished line, and what is read behind it.
+pub const BLOCK: usize = KEPT + 65_536;
+
+// The numbers of a page of the move list, five a row.
+pub const NUMBERS: usize = 5 * 8_192;
+
+// The buffer: room for the lines of a page, 60 bytes each at the most, and behind them for a reply.
+pub const OUT: usize = LAST + 64;
+
+const LAST: usize = 60 * 8_192;
+
+// What is proved of a whole input: specs/Claims.antt.
+pub fn claims()
+    ensures { λ _. ⌜ OutputWhole ⌝ }
+{}
+
+// The session's state; whether a move list is in progress, and its next row; and the bytes of the block that are read and not yet
+// answered: from place `from` to place `size`.
+pub struct Machine {
+    pub state: State,
+    pub listing: bool,
+    pub row: u32,
+    pub from: usize,
+    pub size: usize,
+}
+
+// After a turn: the machine, how many bytes it put into the buffer, and whether there is more to do.
+pub struct After {
+    pub machine: Machine,
+    pub put: usize,
+    pub more: bool,
+}
+
+// No map yet, and nothing read.
+pub fn start() -> Machine
+    ensures { λ r. ⌜ Begins r ⌝ }
+{
+    let none = Header {
+        buckets: 0,
+        block_count: 0,
+        interval_count: 0,
+    };
+    Machine {
+        state: State {
+            stage: Stage::Empty,
+            flipped: false,
+            bins: 0,
+            current: none,
+            before: none,
+        },
+        listing: false,
+        row: 0,
+        from: 0,
+        size: 0,
+    }
+}
+
+// What is read behind the bytes that are left, `got` bytes; or, where none are read, the input has ended: a line feed then ends an
+// unfinished line.
+pub fn receive(m: Machine, block: &mut [u8], got: usize) -> Machine
+    requires { ⌜ Rests m (now block) × (m .from ≤ m .size) × (m .size < length (now block)) × (m .size + got ≤ length (now block)) ⌝ }
+    ensures { λ r. ⌜ Receives m got (now (block .entry)) r (now (block .exit)) ⌝ }
+{
+    let mut m = m;
+    let size = m.size;
+    if 0 < got {
+        m.size = size + got;
+        return m;
+    }
+    if m.from < size {
+        block[size] = b'\n';
+        m.size = size + 1;
+        return m;
+    }
+    m
+}
+
+// A page of the move list in progress, if there is one, put into the empty buffer.
+fn page(
+    m: Machine,
+    tops: &[u32; 65],
+    ends: &[u32; 2081],
+    blocks: &[u32; 2081],
+    adjustments: &[u32; 2081],
+    second_tops: &[u32; 65],
+    second_ends: &[u32; 2081],
+    second_blocks: &[u32; 2081],
+    second_adjustments: &[u32; 2081],
+    rows: &mut [u32; NUMBERS],
+    out: &mut [u8; OUT],
+) -> After
+    requires { ⌜ SaneNow m tops ends blocks adjustments «second_tops» «second_ends» «second_blocks» «second_adjustments» ⌝ }
+    ensures { λ r. ⌜ PutsPage m tops ends blocks adjustments «second_tops» «second_ends» «second_blocks» «second_adjustments» out r ⌝ }
+{
+    let state = m.state;
+    if m.listing {
+        let page = list(
+            state,
+            tops,
+            ends,
+            blocks,
+            adjustments,
+            second_tops,
+            second_ends,
+            second_blocks,
+            second_adjustments,
+            m.row,
+            rows,
+            out,
+        );
+        let row = m.row + page.rows;
+        let left = page.total - row;
+        let more = 0 < left;
+        return After {
+            machine: Machine {
+                state,
+                listing: more,
+                row,
+                from: m.from,
+                size: m.size,
+            },
+            put: page.length,
+            more,
+        };
+    }
+    After {
+        machine: m,
+        put: 0,
+        more: false,
+    }
+}
+
+// The lines of a block, each answered where it stands, behind `put` bytes in the buffer: until none is whole, a move list begins, or
+// the buffer has no room for a reply.
+fn answer(
+    m: Machine,
+    block: &[u8],
+    tops: &mut [u32; 65],
+    ends: &mut [u32; 2081],
+    blocks: &mut [u32; 2081],
+    adjustments: &mut [u32; 2081],
+    second_tops: &mut [u32; 65],
+    second_ends: &mut [u32; 2081],
+    second_blocks: &mut [u32; 2081],
+    second_adjustments: &mut [u32; 2081],
+    put: usize,
+    out: &mut [u8; OUT],
+) -> After
+    requires { ⌜ (m .listing ≡ false) × (m .from ≤ length (now block)) × (put ≤ length (now out)) ⌝ }
+    requires { ⌜ SaneNow m tops ends blocks adjustments «second_tops» «second_ends» «second_blocks» «second_adjustments» ⌝ }
+    ensures { λ r. ⌜ AnswersLines m block tops ends blocks adjustments «second_tops» «second_ends» «second_blocks» «second_adjustments» put out r ⌝ }
+{
+    let mut m = m;
+    let mut put = put;
+    while put <= LAST {
+        let from = m.from;
+        let end = feed_at(block, from);
+        if end == block.len() {
+            return After {
+                machine: m,
+                put,
+                more: false,
+            };
+        }
+        let behind = end + 1;
+        let state = m.state;
+        let reply = step(
+            &block[from..end],
+            state,
+            tops,
+            ends,
+            blocks,
+            adjustments,
+            second_tops,
+            second_ends,
+            second_blocks,
+            second_adjustments,
+            out,
+            put,
+        );
+        let state = reply.state;
+        put = reply.at;
+        m.state = state;
+        m.listing = reply.list;
+        m.row = 0;
+        m.from = behind;
+        if reply.list {
+            break;
+        }
+    }
+    After {
+        machine: m,
+        put,
+        more: true,
+    }
+}
+
+// Moves the first bytes of an unfinished line to the front of the block: they say as much as all of it. How many are kept.
+fn keep(block: &mut [u8], from: usize, size: usize) -> usize
+    requires { ⌜ (from ≤ size) × (size ≤ length (now block)) ⌝ }
+    ensures { λ r. ⌜ r ≡ length (take keptBytes (drop from (take size (now (block .entry))))) ⌝ }
+    ensures { λ _. ⌜ now (block .exit) ≡ over (take keptBytes (drop from (take size (now (block .entry))))) (now (block .entry)) ⌝ }
+{
+    let mut kept = 0;
+    while kept < KEPT {
+        if from + kept == size {
+            return kept;
+        }
+        block[kept] = block[from + kept];
+        kept += 1;
+    }
+    kept
+}
+
+// A turn of the machine, whose buffer is empty: until there is no room for a reply, or no line of the block is left.
+pub fn turn(
+    m: Machine,
+    block: &mut [u8],
+    tops: &mut [u32; 65],
+    ends: &mut [u32; 2081],
+    blocks: &mut [u32; 2081],
+    adjustments: &mut [u32; 2081],
+    second_tops: &mut [u32; 65],
+    second_ends: &mut [u32; 2081],
+    second_blocks: &mut [u32; 2081],
+    second_adjustments: &mut [u32; 2081],
+    rows: &mut [u32; NUMBERS],
+    out: &mut [u8; OUT],
+) -> After
+    requires { ⌜ ReadyNow m block tops ends blocks adjustments «second_tops» «second_ends» «second_blocks» «second_adjustments» ⌝ }
+    ensures { λ r. ⌜ MakesTurn m block tops ends blocks adjustments «second_tops» «second_ends» «second_blocks» «second_adjustments» out r ⌝ }
+{
+    let listed = page(
+        m,
+        tops,
+        ends,
+        blocks,
+        adjustments,
+        second_tops,
+        second_ends,
+        second_blocks,
+        second_adjustments,
+        rows,
+        out,
+    );
+    if listed.more {
+        return listed;
+    }
+    let m = listed.machine;
+    let size = m.size;
+    let answered = answer(
+        m,
+        &block[..size],
+        tops,
+        ends,
+        blocks,
+        adjustments,
+        second_tops,
+        second_ends,
+        second_blocks,
+        second_adjustments,
+        listed.put,
+        out,
+    );
+    if answered.more {
+        return answered;
+    }
+    let mut m = answered.machine;
+    let kept = keep(block, m.from, m.size);
+    m.from = 0;
+    m.size = kept;
+    After {
+        machine: m,
+        put: answered.put,
+        more: false,
+    }
+}
