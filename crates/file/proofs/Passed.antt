@@ -10,7 +10,7 @@ use lib.Seq.{take-at, take-length}
 use borrow.Author.Tests.{eqb-true, not-false}
 use Rattle.model.specs.Basics.{from}
 use Rattle.model.specs.Table.{Arrays, arrays, table, over, written}
-use Rattle.model.specs.Refusal.{first, topsWrong, endsWrong, blocksWrong, holdingsWrong, adjustmentOf, roomShort}
+use Rattle.model.specs.Refusal.{first, topsWrong, endsWrong, blocksWrong, adjustmentOf, roomShort}
 use Rattle.model.specs.Saved.{savedLength, loadedHeader, readArrays, loadedArrays, fileWrong}
 use Rattle.model.specs.Calls.{noHeader, arraysAfter, loadAnswer, loadTests}
 use Rattle.model.specs.declared.table.Header.{Header}
@@ -150,7 +150,8 @@ settled-loaded f h out o old r left s =
             | yes z ↦
                 s .accepted z
                 ∙ loaded-written f h (o .says) old _ _ _ _ refl refl refl
-                (λ i. over (from (λ k. adjustment-same h (fileArrays f h .ends) (fileArrays f h .blocks) [] (fileArrays f h .tops) [] [] k i) 0 (h .«interval_count»)) (old .adjustments))
+                (λ i. over (from (λ k. adjustment-same h (fileArrays f h .ends) (fileArrays f h .blocks) [] (fileArrays f h .tops) [] [] k i) 0
+                (h .«interval_count»)) (old .adjustments))
                 ∙ sym (accepted (first (loadTests f)) _ _ (sym said ∙ z))
             | no n ↦ s .refused n ∙ sym (refused (first (loadTests f)) _ _ (λ z. n (said ∙ z)))
           ];

@@ -1,12 +1,11 @@
 -- Laws of the calls' replies: what a refusal by the table's tests, or by the tests after them, makes of each. Assumes nothing.
-use Prim.Native.Nat.{ℕ, _+_, _*_, _≤_, _<_}
+use Prim.Native.Nat.{ℕ, _+_, _≤_, _<_}
 use mathlib.Core.Path.{_≡_, refl, sym, _∙_, ap}
 use mathlib.Core.Bool.{true, false}
 use mathlib.Core.List.{List, [], _++_}
-use mathlib.Core.Logic.{⊎-elim}
 use native.Mathlib.Omega.{arith}
 use lib.ListN.{length}
-use borrow.Author.Tests.{lt-ltb, le-ltb, le-leb, lt-leb}
+use borrow.Author.Tests.{lt-ltb, le-ltb}
 use Rattle.model.specs.Basics.{if_then_else_}
 use Rattle.model.specs.Table.{Shape, Arrays, arrays, table, header, over, written}
 use Rattle.model.specs.Refusal.{Test, first, roomShort}
@@ -16,7 +15,6 @@ use Rattle.model.specs.Initial.{initial}
 use Rattle.model.specs.Saved.{saved, savedLength, loadedHeader, loadedArrays}
 use Rattle.model.specs.Calls.{answer, noHeader, tableTests, sizeTests, tableReply, arraysAfter, initialRefusal, initialReply, initialArrays, saveTests, saveRefusal, saveReply, saveBytes, loadTests, loadRefusal, loadAnswer, loadReply, loadArrays, placeAnswer, placeTests, placeReply, findAnswer, findTests, findReply, binSizeAnswer, binSizeTests, binSizeReply}
 use Rattle.model.specs.declared.table.Header.{Header}
-use Rattle.model.proofs.Counts.{below-or}
 use Rattle.model.proofs.Refusals.{first-here, first-skip, first-found, first-after, accepted, refused}
 use Rattle.file.specs.Loading.{loadedOver}
 use Rattle.model.proofs.Bytes.{saved-same}

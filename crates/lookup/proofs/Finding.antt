@@ -1,7 +1,7 @@
 -- Laws of finding in a sound table: a bin's block and size, and the search for a rank. Assumes nothing.
 use Prim.Native.Nat.{ℕ, suc, _+_, _-_, _*_, _/_, _%_, _^_, _≤_, _<_}
 use mathlib.Core.Path.{_≡_, refl, ap, sym, _∙_}
-use mathlib.Core.Logic.{_⊎_, inl, inr, ⊎-elim}
+use mathlib.Core.Logic.{_⊎_, ⊎-elim}
 use mathlib.Core.Bool.{true, false}
 use mathlib.Core.List.{List}
 use native.Mathlib.Nat.{mul-le-mul}
@@ -13,7 +13,6 @@ use lib.ListN.{drop-of-length-le}
 use borrow.Author.Tests.{lt-ltb, le-ltb, le-leb, lt-leb}
 use Rattle.model.specs.Basics.{if_then_else_, _or_, from, before}
 use Rattle.model.specs.Table.{Shape, Table, firstBin, Arrays, bins, shape, table}
-use Rattle.model.specs.Place.{binSize}
 use Rattle.model.specs.Search.{blockOfBin, includes, holder, rankAt, foundOf, heldAt, foundAt}
 use Rattle.model.specs.Due.{due}
 use Rattle.model.specs.Refusal.{first, binPast, searched}
@@ -21,7 +20,7 @@ use Rattle.model.specs.Sound.{Sound}
 use Rattle.model.specs.Calls.{answer, binSizeAnswer, binSizeTests, findAnswer, findTests}
 use Rattle.model.specs.declared.table.Header.{Header}
 use Rattle.model.specs.declared.search.Holder.the-variants.{In, Nothing}
-use Rattle.model.proofs.Counts.{bit-cases, below-or}
+use Rattle.model.proofs.Counts.{bit-cases}
 use Rattle.model.proofs.Dues.{due-more, due-less}
 use Rattle.model.proofs.Intervals.{before-mono}
 use Rattle.model.proofs.Places.{size-due}

@@ -1,5 +1,5 @@
 -- Laws of placing in a sound table: the search for a bucket's interval, and the bin and position. Assumes nothing.
-use Prim.Native.Nat.{ℕ, zero, suc, _+_, _-_, _/_, _%_, _≤_, _<_}
+use Prim.Native.Nat.{ℕ, zero, suc, _+_, _-_, _≤_, _<_}
 use mathlib.Core.Path.{_≡_, refl, ap, ap₂, sym, _∙_}
 use mathlib.Core.Logic.{⊎-elim}
 use native.Mathlib.Nat.{le-trans, zero-add}
@@ -9,15 +9,14 @@ use lib.Seq.{getD-take}
 use borrow.Author.Tests.{lt-ltb, le-ltb, le-leb, lt-leb}
 use Rattle.model.specs.Basics.{if_then_else_, from, before}
 use Rattle.model.specs.Table.{Interval, interval, Table, firstBin, blockBins, Arrays, table}
-use Rattle.model.specs.Place.{rank, binOf, positionOf}
+use Rattle.model.specs.Place.{binOf, positionOf}
 use Rattle.model.specs.Search.{intervalAt, indexOf, located, placeOf, placeAt}
 use Rattle.model.specs.Refusal.{adjustmentOf, bucketPast}
 use Rattle.model.specs.Sound.{Sound}
 use Rattle.model.specs.declared.table.Header.{Header}
-use Rattle.model.specs.declared.search.Located.{Located}
 use Rattle.model.specs.declared.search.Located.the-variants.{At, Outside}
 use Rattle.model.proofs.Counts.{below-or}
-use Rattle.model.proofs.Intervals.{before-mono, block-at, rank-at, held-others}
+use Rattle.model.proofs.Intervals.{before-mono, rank-at, held-others}
 use Rattle.model.proofs.Ranks.{interval-of}
 use Rattle.model.proofs.Finds.{entry}
 use Rattle.model.proofs.Tables.{getD-from}

@@ -101,8 +101,11 @@ module _ (s s′ : Shape) (f g : ℕ → ℕ) where
     enters-none→ none =
         omega (
           arith,
-          sum-zero enters (s .buckets) (λ x l. ⊎-elim (λ h. omega (arith, bit-eq (f x) (g x) (none x (omega arith) h .1), bit-lt (g x) (s .bins) h)) (λ h. omega (arith, bit-ge (g x) (s .bins) h)) (below-or (g x) (s .bins))),
-          sum-zero (λ i. bit (ltb (g (s .buckets + i)) (s .bins))) (s′ .buckets - s .buckets) (λ i l. ⊎-elim (λ h. absurd (omega (arith, none (s .buckets + i) (omega arith) h .0))) (λ h. bit-ge (g (s .buckets + i)) (s .bins) h) (below-or (g (s .buckets + i)) (s .bins))),
+          sum-zero enters (s .buckets) (λ x l. ⊎-elim (λ h. omega (arith, bit-eq (f x) (g x) (none x (omega arith) h .1), bit-lt (g x) (s .bins) h))
+              (λ h. omega (arith, bit-ge (g x) (s .bins) h)) (below-or (g x) (s .bins))),
+          sum-zero (λ i. bit (ltb (g (s .buckets + i)) (s .bins))) (s′ .buckets - s .buckets)
+              (λ i l. ⊎-elim (λ h. absurd (omega (arith, none (s .buckets + i) (omega arith) h .0))) (λ h. bit-ge (g (s .buckets + i)) (s .bins) h)
+              (below-or (g (s .buckets + i)) (s .bins))),
         )
 
     enters-none← : oldEnter + newEnter ≡ 0 → EntersNone s s′ f g

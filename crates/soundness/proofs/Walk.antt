@@ -1,7 +1,7 @@
 -- The walk of rule 16 that keeps, for each block, the end less the adjustment of its latest interval, modulo 2^32: while
 -- every adjustment so far is right that is what the block holds, and from the first wrong one on the gathered differences
 -- are not 0. Assumes nothing.
-use Prim.Native.Nat.{ℕ, zero, suc, _+_, _-_, _*_, _/_, _%_, _≤_, _<_}
+use Prim.Native.Nat.{ℕ, _+_, _-_, _%_, _≤_, _<_}
 use mathlib.Core.Path.{_≡_, refl, sym, _∙_, ap}
 use mathlib.Core.Logic.{_⊎_, inl, inr}
 use mathlib.Core.Bool.{Bool, true, false, not, false≢true}
@@ -10,11 +10,11 @@ use native.Mathlib.Nat.{div-add-mod}
 use native.Mathlib.Numerals.{add-one}
 use native.Mathlib.Decide.{ℕ-discrete}
 use native.Mathlib.Omega.{arith}
-use lib.Bits.{bitAnd, bitOr, bitXor, and-le-l, and-le-r, or-add-and, xor-add-and, xor-self}
+use lib.Bits.{bitOr, bitXor, and-le-l, and-le-r, or-add-and, xor-add-and, xor-self}
 use lib.Dec.{eqb}
 use lib.ListN.{getD, set, replicate}
 use borrow.Author.Tests.{eq-eqb, ne-eqb}
-use Rattle.model.specs.Basics.{_and_, all, before}
+use Rattle.model.specs.Basics.{_and_, all}
 use Rattle.model.specs.Limits.{maxBlocks}
 use Rattle.model.specs.Table.{Arrays, arrays}
 use Rattle.model.specs.Refusal.{adjustmentOf}

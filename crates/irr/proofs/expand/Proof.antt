@@ -74,8 +74,12 @@ same-length-12 c = search needs
 
 returns-3 : tie.Need-returns-3
 returns-3 c =
-    let long = sym (c .before .before .before .before .before .before .before .before .before .before .before .before .before .before .before .before .room-short .ensures) ∙ c .before .before .before .before .before .before .before .before .before .before .before .before .before .before .before .if1 .left in
-    expand-accepted _ _ _ _ long _ (c .before .before .before .before .before .before .before .before .before .before .before .before .before .before .check .ensures) _ _ (c .before .before .before .before .before .before .before .before .before .before .before .before .before .if2 .left) (c .before .before .before .before .before .before .before .before .grown .ensures)
+    let long = sym (c .before .before .before .before .before .before .before .before .before .before .before .before .before .before .before .before
+    .room-short .ensures) ∙ c .before .before .before .before .before .before .before .before .before .before .before .before .before .before .before
+    .if1 .left in
+    expand-accepted _ _ _ _ long _ (c .before .before .before .before .before .before .before .before .before .before .before .before .before .before
+    .check .ensures) _ _ (c .before .before .before .before .before .before .before .before .before .before .before .before .before .if2 .left)
+    (c .before .before .before .before .before .before .before .before .grown .ensures)
 
 pub expand-spec : {M : Type 1} → statement M
 expand-spec =

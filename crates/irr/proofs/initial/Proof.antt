@@ -55,7 +55,9 @@ returns-2 c =
     (c .refused-table2 .ensures ∙ answer .0, answer .1)
 
 write-initial-requires : tie.Need-write-initial-requires
-write-initial-requires c κs = sym (c .before .before .before .before .before .before .before .room-short .ensures) ∙ c .before .before .before .before .before .before .if1 .left
+write-initial-requires c κs =
+    sym (c .before .before .before .before .before .before .before .room-short .ensures) ∙ c .before .before .before .before .before .before .if1
+    .left
 
 same-length-9 : tie.Need-same-length-9
 same-length-9 c = search needs
@@ -71,8 +73,12 @@ same-length-12 c = search needs
 
 returns-3 : tie.Need-returns-3
 returns-3 c =
-    let long = sym (c .before .before .before .before .before .before .before .before .before .before .before .before .before .before .before .before .room-short .ensures) ∙ c .before .before .before .before .before .before .before .before .before .before .before .before .before .before .before .if1 .left in
-    let answer = initial-accepted _ _ _ (initial-sizes _ _ _ long (c .before .before .before .before .before .before .before .before .before .before .before .before .before .before .size-refusal .ensures)) (c .before .before .before .before .before .before .before .before .before .before .before .before .before .if2 .left) in
+    let long = sym (c .before .before .before .before .before .before .before .before .before .before .before .before .before .before .before .before
+    .room-short .ensures) ∙ c .before .before .before .before .before .before .before .before .before .before .before .before .before .before .before
+    .if1 .left in
+    let answer = initial-accepted _ _ _ (initial-sizes _ _ _ long
+    (c .before .before .before .before .before .before .before .before .before .before .before .before .before .before .size-refusal .ensures))
+    (c .before .before .before .before .before .before .before .before .before .before .before .before .before .if2 .left) in
     (answer .0, c .before .before .before .before .before .before .before .before .write-initial .ensures ∙ answer .1)
 
 pub initial-spec : {M : Type 1} → statement M

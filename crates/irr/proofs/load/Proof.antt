@@ -48,7 +48,8 @@ same-length-8 c = search needs
 returns-2 : tie.Need-returns-2
 returns-2 c =
     let done = c .before .before .before .before .before .before .before .before in
-    let answer = load-later _ _ (sym (done .before .before .before .before .before .before .room-short .ensures) ∙ done .before .before .before .before .before .if1 .left) in
+    let answer = load-later _ _ (sym (done .before .before .before .before .before .before .room-short .ensures) ∙ done .before .before .before
+    .before .before .if1 .left) in
     (done .loaded .ensures .0 ∙ answer .0, done .loaded .ensures .1 ∙ answer .1)
 
 pub load-spec : {M : Type 1} → statement M

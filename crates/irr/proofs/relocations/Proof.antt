@@ -18,7 +18,9 @@ same-length : tie.Need-same-length
 same-length c = search needs
 
 returns-2 : tie.Need-returns-2
-returns-2 c = list-accepted _ _ _ (c .before .before .before .before .before .check .ensures) _ _ _ _ _ (c .before .before .before .before .if1 .left) (c .before .before .relocated .ensures)
+returns-2 c =
+    list-accepted _ _ _ (c .before .before .before .before .before .check .ensures) _ _ _ _ _ (c .before .before .before .before .if1 .left)
+    (c .before .before .relocated .ensures)
 
 pub relocations-spec : {M : Type 1} → statement M
 relocations-spec =

@@ -35,7 +35,8 @@ returns-2 c = save-short _ _ _ (c .before .before .before .before .check .ensure
 
 write-saved-requires : tie.Need-write-saved-requires
 unfolding savedLength
-write-saved-requires c κs = let s = checked _ _ _ (c .before .before .before .before .before .check .ensures) (c .before .before .before .before .if1 .left) in omega arith
+write-saved-requires c κs =
+    let s = checked _ _ _ (c .before .before .before .before .before .check .ensures) (c .before .before .before .before .if1 .left) in omega arith
 
 same-length : tie.Need-same-length
 same-length c = search needs

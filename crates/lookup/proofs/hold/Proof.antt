@@ -58,7 +58,10 @@ loop-less : tie.Need-loop-less Inv-loop μ-loop
 loop-less c = omega arith
 
 loop-again : tie.Need-loop-again Inv-loop μ-loop
-loop-again c = let start = c .before .before .before .before .before .before .before in searching-more (lists start) _ _ _ _ _ (c .before .before .before .before .before .loop .inv) (omega arith) (λ b l. ⊎-elim (λ w. omega arith) (λ w. ⊎-elim (λ v. omega arith) (λ v. omega arith) w) (c .if2 .came))
+loop-again c =
+    let start = c .before .before .before .before .before .before .before in
+    searching-more (lists start) _ _ _ _ _ (c .before .before .before .before .before .loop .inv) (omega arith)
+    (λ b l. ⊎-elim (λ w. omega arith) (λ w. ⊎-elim (λ v. omega arith) (λ v. omega arith) w) (c .if2 .came))
 
 returns : tie.Need-returns Inv-loop μ-loop
 unfolding table
@@ -66,7 +69,10 @@ returns c = let start = c .before .before .before in searching-ends (lists start
 
 returns-2 : tie.Need-returns-2 Inv-loop μ-loop
 unfolding table
-returns-2 c = let start = c .before .before .before .before .before .before .before .before .before in searching-found (lists start) _ _ _ _ _ (c .before .before .before .before .before .before .before .loop .inv) (omega arith) (omega arith) (omega arith) (omega arith)
+returns-2 c =
+    let start = c .before .before .before .before .before .before .before .before .before in
+    searching-found (lists start) _ _ _ _ _ (c .before .before .before .before .before .before .before .loop .inv) (omega arith) (omega arith)
+    (omega arith) (omega arith)
 
 pub hold-spec : {M : Type 1} → statement M
 hold-spec =

@@ -62,7 +62,8 @@ shared-slice-read-t18 c = omega arith
 -- after the loop: the bucket is before the end of the interval found
 inside
     : (c : tie.After-shared-slice-known6 Inv-loop μ-loop)
-    → c .before .before .before .before .before .before .before .before .before .before .args .bucket < getD (c .before .before .before .before .before .before .before .before .before .before .args .ends .now) (c .before .before .loop .low) 0
+    → c .before .before .before .before .before .before .before .before .before .before .args .bucket < getD
+    (c .before .before .before .before .before .before .before .before .before .before .args .ends .now) (c .before .before .loop .low) 0
 inside c =
     let turn = c .before .before .loop in
     let ends = c .before .before .before .before .before .before .before .before .before .before .args .ends .now in

@@ -4,7 +4,6 @@ use native.Mathlib.Nat.{mod-lt}
 use native.Mathlib.Omega.{arith}
 use lib.ListN.{getD}
 use Rattle.model.specs.Table.{firstBin, blockBins}
-use borrow.Author.Needs.{needs}
 use Rattle.lookup.proofs.place_in.Statement.{statement}
 use Rattle.lookup.proofs.place_in.Tie as tie
 

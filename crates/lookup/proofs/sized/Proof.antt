@@ -23,13 +23,26 @@ rem-if2 c =
     omega (arith, bins-some (start .args .h) _ (start .pre) _ (c .before .before .before .bin-count .ensures))
 
 add-t11 : tie.Need-add-t11
-add-t11 c = omega (arith, c .before .before .before .before .before .before .before .before .before .pre .bucketLimit, div-le-self (c .before .before .before .before .before .before .before .before .before .args .h .buckets) (c .before .before .before .before .bin-count .result))
+add-t11 c =
+    omega (
+      arith,
+      c .before .before .before .before .before .before .before .before .before .pre .bucketLimit,
+      div-le-self
+          (c .before .before .before .before .before .before .before .before .before .args .h .buckets)
+          (c .before .before .before .before .bin-count .result),
+    )
 
 returns-2 : tie.Need-returns-2
-returns-2 c = size-more (c .before .before .before .before .before .before .before .before .before .args .h) _ (c .before .before .before .before .before .before .before .before .before .pre) _ _ (c .before .before .before .before .bin-count .ensures) (omega arith) (c .if2 .taken)
+returns-2 c =
+    size-more (c .before .before .before .before .before .before .before .before .before .args .h) _
+    (c .before .before .before .before .before .before .before .before .before .pre) _ _ (c .before .before .before .before .bin-count .ensures)
+    (omega arith) (c .if2 .taken)
 
 returns-3 : tie.Need-returns-3
-returns-3 c = size-less (c .before .before .before .before .before .before .before .before .before .args .h) _ (c .before .before .before .before .before .before .before .before .before .pre) _ _ (c .before .before .before .before .bin-count .ensures) (omega arith) (c .if2 .left)
+returns-3 c =
+    size-less (c .before .before .before .before .before .before .before .before .before .args .h) _
+    (c .before .before .before .before .before .before .before .before .before .pre) _ _ (c .before .before .before .before .bin-count .ensures)
+    (omega arith) (c .if2 .left)
 
 pub sized-spec : {M : Type 1} → statement M
 sized-spec =

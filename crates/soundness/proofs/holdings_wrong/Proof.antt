@@ -68,7 +68,8 @@ element-copy-out-if2 c = omega arith
 sub-if2 : tie.Need-sub-if2 Inv-loop μ-loop
 unfolding dueBelow
 sub-if2 c =
-    let t = due-turn _ _ (c .before .before .before .before .before .before .before .before .before .before .before .pre) (c .before .before .before .before .before .loop .j) (omega arith) in
+    let t = due-turn _ _ (c .before .before .before .before .before .before .before .before .before .before .before .pre)
+    (c .before .before .before .before .before .loop .j) (omega arith) in
     omega (arith, c .before .due-below .ensures)
 
 returns : tie.Need-returns Inv-loop μ-loop
@@ -92,7 +93,8 @@ loop-less c = omega arith
 loop-again : tie.Need-loop-again Inv-loop μ-loop
 unfolding dueBelow
 loop-again c =
-    let t = due-turn _ _ (c .before .before .before .before .before .before .before .before .before .before .before .before .pre) (c .before .before .before .before .before .before .loop .j) (omega arith) in (
+    let t = due-turn _ _ (c .before .before .before .before .before .before .before .before .before .before .before .before .pre)
+    (c .before .before .before .before .before .before .loop .j) (omega arith) in (
       omega arith,
       rw before-next (omega (arith, c .before .before .due-below .ensures)),
       below-more _ _ (c .before .before .before .before .before .before .loop .inv .2) (omega (arith, c .before .before .due-below .ensures, c .if2 .left)),

@@ -1,6 +1,6 @@
 -- `soundness::rising` meets its contract. The loop's invariant: `ok` says whether the first i entries rise. Assumes nothing.
 use Prim.Native.Nat.{_≤_, _-_}
-use mathlib.Core.Path.{_≡_, refl, sym, _∙_}
+use mathlib.Core.Path.{_≡_, refl}
 use native.Mathlib.Omega.{arith}
 use Rattle.model.specs.Basics.{_and_, all, before}
 use Rattle.model.specs.Refusal.{rises}

@@ -12,7 +12,9 @@ before-requires : tie.Need-before-requires
 before-requires c κs = search needs
 
 returns : tie.Need-returns
-returns c = c .before2 .ensures ∙ sym (bins-table (c .before .before .before .before .before .before .args .h) _ (c .before .before .before .before .before .before .pre .topsLong))
+returns c =
+    c .before2 .ensures ∙ sym (bins-table (c .before .before .before .before .before .before .args .h) _
+    (c .before .before .before .before .before .before .pre .topsLong))
 
 pub bin-count-spec : {M : Type 1} → statement M
 bin-count-spec = tie.close (tie.spec cast-before before-requires returns)

@@ -28,13 +28,16 @@ slice-reshare-prefix-settle-2 : tie.Need-slice-reshare-prefix-settle-2
 slice-reshare-prefix-settle-2 c = search needs
 
 slice-aggregate-settle-2 : tie.Need-slice-aggregate-settle-2
-slice-aggregate-settle-2 c = let k = c .before .before .before .before .before .before .before .before in taken-length _ _ _ _ (k .decode .ensures .1 .0) (length-from _ _ _)
+slice-aggregate-settle-2 c =
+    let k = c .before .before .before .before .before .before .before .before in taken-length _ _ _ _ (k .decode .ensures .1 .0) (length-from _ _ _)
 
 slice-reshare-prefix-settle-3 : tie.Need-slice-reshare-prefix-settle-3
 slice-reshare-prefix-settle-3 c = search needs
 
 slice-aggregate-settle-3 : tie.Need-slice-aggregate-settle-3
-slice-aggregate-settle-3 c = let k = c .before .before .before .before .before .before .before .before .before in taken-length _ _ _ _ (k .decode .ensures .1 .1) (length-from _ _ _)
+slice-aggregate-settle-3 c =
+    let k = c .before .before .before .before .before .before .before .before .before in
+    taken-length _ _ _ _ (k .decode .ensures .1 .1) (length-from _ _ _)
 
 settle-requires : tie.Need-settle-requires
 settle-requires c κs =
@@ -73,7 +76,8 @@ same-length-8 c = search needs
 
 returns : tie.Need-returns
 returns c =
-    let k = c .before .before .before .before .before .before .before .before .before .before .before .before .before .before .before .before .before .before .before .before .before .before .before .before .before in
+    let k = c .before .before .before .before .before .before .before .before .before .before .before .before .before .before .before .before .before
+    .before .before .before .before .before .before .before .before in
     file-loaded _ _ _ (entry k .pre .0) _ _ _
     (taken _ _ _ _ (k .decode .ensures .0) (length-from _ _ _))
     (taken _ _ _ _ (k .decode .ensures .1 .0) (length-from _ _ _))

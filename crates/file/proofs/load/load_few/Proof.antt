@@ -18,8 +18,16 @@ slice-aggregate-load-by-4 c = search needs
 
 load-by-requires : tie.Need-load-by-requires
 load-by-requires c κs =
-    let start = c .before .before .before .before .before .before .before .before .before .before .before .before .before in
-    (start .pre .0, record { tops = omega (arith, start .pre .0 .counted .blockLimit); ends = start .pre .1; blocks = start .pre .1; adjustments = start .pre .1 })
+    let start = c .before .before .before .before .before .before .before .before .before .before .before .before .before in (
+      start .pre .0,
+      record {
+        tops = omega (arith, start .pre .0 .counted .blockLimit);
+        ends = start .pre .1;
+        blocks = start .pre .1;
+        adjustments =
+            start .pre .1;
+      },
+    )
 
 same-length : tie.Need-same-length
 same-length c = search needs

@@ -56,7 +56,9 @@ same-length-4 c = search needs
 
 returns-2 : tie.Need-returns-2
 returns-2 c =
-    loaded-replied _ _ _ _ _ _ (c .before .before .before .before .before .before .before .before .before .before .before .before .before .before .before .before .header-of .ensures) (c .before .before .before .before .before .before .before .before .before .load-few .ensures) (c .reply .ensures)
+    loaded-replied _ _ _ _ _ _ (c .before .before .before .before .before .before .before .before .before .before .before .before .before .before
+    .before .before .header-of .ensures) (c .before .before .before .before .before .before .before .before .before .load-few .ensures)
+    (c .reply .ensures)
 
 load-many-requires : tie.Need-load-many-requires
 load-many-requires c κs = ready (c .before .before .before .before .before .before)
@@ -78,7 +80,9 @@ same-length-8 c = search needs
 
 returns-3 : tie.Need-returns-3
 returns-3 c =
-    loaded-replied _ _ _ _ _ _ (c .before .before .before .before .before .before .before .before .before .before .before .before .before .before .before .before .header-of .ensures) (c .before .before .before .before .before .before .before .before .before .load-many .ensures) (c .reply2 .ensures)
+    loaded-replied _ _ _ _ _ _ (c .before .before .before .before .before .before .before .before .before .before .before .before .before .before
+    .before .before .header-of .ensures) (c .before .before .before .before .before .before .before .before .before .load-many .ensures)
+    (c .reply2 .ensures)
 
 pub loaded-spec : {M : Type 1} → statement M
 loaded-spec =

@@ -32,7 +32,9 @@ room
 room c = roomy _ (c .pre .1 .1)
 
 complete-requires : tie.Need-complete-requires
-complete-requires c κs = let start = c .before .before .before .before .before .before .before .before .before in (decoded-counted _ _ _ _ (start .pre .0), start .pre .1 .0)
+complete-requires c κs =
+    let start = c .before .before .before .before .before .before .before .before .before in
+    (decoded-counted _ _ _ _ (start .pre .0), start .pre .1 .0)
 
 same-length : tie.Need-same-length
 same-length c = search needs
