@@ -18,6 +18,7 @@ use Rattle.model.specs.declared.search.Located.the-variants.{At, Outside}
 use Rattle.model.proofs.Counts.{below-or}
 use Rattle.model.proofs.Intervals.{before-mono, rank-at, held-others}
 use Rattle.model.proofs.Ranks.{interval-of}
+use Rattle.lookup.specs.Search.{Locatable}
 use Rattle.model.proofs.Finds.{entry}
 use Rattle.model.proofs.Tables.{getD-from}
 
@@ -62,6 +63,17 @@ module _ (h : Header) (a : Arrays) (s : Sound h a) where
       (le-trans (before-mono (a .ends) (h .«interval_count») (s .endsRise) i (suc m) d (omega arith)) b))
       (rw (zero-add i) e))
       (rank-at h a (s .endsRise) i x l b e))
+
+-- a sound table as the search reads it
+pub sound-locatable : (h : Header) (a : Arrays) → Sound h a → Locatable h (a .ends) (a .adjustments)
+sound-locatable h a s =
+    record {
+      some = s .someIntervals;
+      rising = record { long = s .endsLong; rise = s .endsRise };
+      last = s .lastEnd;
+      long = s .adjustmentsLong;
+      below = adjustment-below h a s;
+    }
 
 pub located-outside : (h : Header) (a : Arrays) (x : ℕ) → h .buckets ≤ x → located (table h a) x ≡ Outside
 unfolding located bucketPast if_then_else_ table

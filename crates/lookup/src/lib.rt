@@ -1,15 +1,17 @@
 // What reads a sound table. Nothing here checks it again.
-ghost use Prim.Native.Nat.{_+_, _^_, _<_, _≤_};
+ghost use Prim.Native.Nat.{ℕ, _+_, _^_, _<_, _≤_};
 ghost use mathlib.Core.Logic.{_⊎_};
+ghost use mathlib.Core.List.{List};
 ghost use mathlib.Core.Path.{_≡_};
 ghost use lib.ListN.{length, getD, take};
-ghost use Rattle.model.specs.Lent.{LentSound, tableGiven, tableNow};
-ghost use Rattle.model.specs.Table.{bins as binsOf, firstBin};
+ghost use Rattle.model.specs.Lent.{lent, LentSound, tableGiven, tableNow};
+ghost use Rattle.model.specs.Table.{arrays, bins as binsOf, firstBin};
 ghost use Rattle.model.specs.Place.{binOf, positionOf};
 ghost use Rattle.model.specs.Search.{located, placeAt, blockOfBin, holder, foundAt};
 ghost use Rattle.model.specs.Refusal.{first};
+ghost use Rattle.model.specs.Sound.{Sound};
 ghost use Rattle.model.specs.Calls.{findAnswer, findTests, binSizeAnswer, binSizeTests};
-ghost use Rattle.lookup.specs.Search.{Among};
+ghost use Rattle.lookup.specs.Search.{Among, Ends, Locatable, intervalsOf};
 use model::reply::BinSizeReply;
 use model::reply::FindReply;
 use model::reply::PlaceReply;
@@ -34,20 +36,12 @@ fn past(end: u32, bucket: u32) -> usize
 
 // At most three intervals of which the bucket's is one. A turn leaves a quarter of them: it reads three ends that do not wait for
 // each other, so the search takes half the turns of one that halves.
-fn narrow(
-    h: Header,
-    tops: &[u32],
-    ends: &[u32],
-    blocks: &[u32],
-    adjustments: &[u32],
-    bucket: u32,
-) -> Span
-    requires { ⌜ LentSound h tops ends blocks adjustments ⌝ }
-    requires { ⌜ bucket < h .buckets ⌝ }
-    ensures { λ r. ⌜ (r .count ≤ 3) × Among (now (ends .entry)) (h .«interval_count») bucket (r .low) (r .count) ⌝ }
+fn narrow(ends: &[u32], k: usize, bucket: u32) -> Span
+    requires { ⌜ Among (now ends) k bucket 0 k × Ends (now ends) k ⌝ }
+    ensures { λ r. ⌜ (r .count ≤ 3) × Among (now (ends .entry)) k bucket (r .low) (r .count) ⌝ }
 {
     let mut low = 0;
-    let mut count = h.interval_count as usize;
+    let mut count = k;
     while 3 < count {
         let quarter = count / 4;
         count -= 3 * quarter;
@@ -60,21 +54,19 @@ fn narrow(
 }
 
 // The interval of a bucket, and the bucket's rank.
-fn locate(
-    h: Header,
-    tops: &[u32],
-    ends: &[u32],
-    blocks: &[u32],
-    adjustments: &[u32],
-    bucket: u32,
-) -> Located
-    requires { ⌜ LentSound h tops ends blocks adjustments ⌝ }
-    ensures { λ r. ⌜ r ≡ located (tableGiven h tops ends blocks adjustments) bucket ⌝ }
+fn locate(h: Header, ends: &[u32], adjustments: &[u32], bucket: u32) -> Located
+    requires { ⌜ Locatable h (now ends) (now adjustments) ⌝ }
+    ensures { λ r.
+        ⌜
+        ((tops blocks : List ℕ)
+        → Sound h (arrays tops (now (ends .entry)) blocks (now (adjustments .entry)))
+        → r ≡ located (lent h tops (now (ends .entry)) blocks (now (adjustments .entry))) bucket)
+        ⌝ }
 {
     if h.buckets <= bucket {
         return Located::Outside;
     }
-    let span = narrow(h, tops, ends, blocks, adjustments, bucket);
+    let span = narrow(ends, h.interval_count as usize, bucket);
     let mut low = span.low;
     let mut count = span.count;
     while 1 < count {
@@ -117,7 +109,7 @@ pub fn placed(
     requires { ⌜ LentSound h tops ends blocks adjustments ⌝ }
     ensures { λ r. ⌜ r ≡ placeAt (tableGiven h tops ends blocks adjustments) bucket ⌝ }
 {
-    let Located::At { interval, rank } = locate(h, tops, ends, blocks, adjustments, bucket) else {
+    let Located::At { interval, rank } = locate(h, ends, adjustments, bucket) else {
         return PlaceReply {
             refusal: 6,
             bin: 0,
@@ -180,19 +172,17 @@ fn block_of_bin(tops: &[u32], count: usize, bin: u32) -> usize
 
 // The first interval of a block whose ranks include the given one, which may be past every bucket's.
 fn hold(
-    h: Header,
-    tops: &[u32],
+    count: usize,
     ends: &[u32],
     blocks: &[u32],
     adjustments: &[u32],
     block: u32,
     rank: u64,
 ) -> Holder
-    requires { ⌜ LentSound h tops ends blocks adjustments ⌝ }
+    requires { ⌜ (count ≤ length (now ends)) × (count ≤ length (now blocks)) × (count ≤ length (now adjustments)) ⌝ }
     requires { ⌜ rank + 2 ^ 32 ≤ 2 ^ 64 ⌝ }
-    ensures { λ r. ⌜ r ≡ holder (tableGiven h tops ends blocks adjustments .intervals) 0 0 block rank ⌝ }
+    ensures { λ r. ⌜ r ≡ holder (intervalsOf (now (ends .entry)) (now (blocks .entry)) (now (adjustments .entry)) count) 0 0 block rank ⌝ }
 {
-    let count = h.interval_count as usize;
     let mut i = 0;
     let mut start = 0;
     let found = loop {
@@ -231,7 +221,8 @@ fn bucket_at(
     let block = block_of_bin(tops, h.block_count as usize, bin);
     let low = before(tops, block);
     let rank = position as u64 * (tops[block] - low) as u64 + (bin - low) as u64;
-    let Holder::In(i) = hold(h, tops, ends, blocks, adjustments, block as u32, rank) else {
+    let count = h.interval_count as usize;
+    let Holder::In(i) = hold(count, ends, blocks, adjustments, block as u32, rank) else {
         return FindReply {
             refusal: 7,
             bucket: 0,

@@ -103,11 +103,16 @@ cast-rank-2 c = search needs
 add-rank : tie.Need-add-rank
 add-rank c = let k = here c in omega (arith, k .fits)
 
+cast-count : tie.Need-cast-count
+cast-count c = search needs
+
 cast-hold : tie.Need-cast-hold
-cast-hold c = let k = here c in omega (arith, entry c .pre .0 .blockLimit)
+cast-hold c = let k = here (c .before) in omega (arith, entry (c .before) .pre .0 .blockLimit)
 
 hold-requires : tie.Need-hold-requires
-hold-requires c κs = (entry c .pre .0, omega (arith, here c .fits))
+hold-requires c κs =
+    let s = entry (c .before) .pre .0 in
+    ((s .endsLong, s .blocksLong, s .adjustmentsLong), omega (arith, here (c .before) .fits))
 
 enum-known-i : tie.Need-enum-known-i
 enum-known-i c = search needs
@@ -116,8 +121,9 @@ enum-told : tie.Need-enum-told
 enum-told c = search needs
 
 returns : tie.Need-returns
+unfolding table
 returns c =
-    let k = c .before .before .before in
+    let k = c .before .before .before .before in
     let start = entry k in
     find-nothing (start .args .h) (lists start) (start .pre .0) _ _ (start .pre .1) (block k) (low k)
     (k .before .before .block-of-bin .ensures) (k .before .before2 .ensures) (rank k) (here k .ranked)
@@ -126,40 +132,41 @@ returns c =
 -- where the search answered an interval, its answer
 found
     : (c : tie.After-known-told)
-    → holder (table (entry (c .before .before .before .before) .args .h) (lists (entry (c .before .before .before .before))) .intervals)
-    0 0 (block (c .before .before .before .before)) (rank (c .before .before .before .before))
+    → holder (table (entry (c .before .before .before .before .before) .args .h) (lists (entry (c .before .before .before .before .before))) .intervals)
+    0 0 (block (c .before .before .before .before .before)) (rank (c .before .before .before .before .before))
     ≡ In (c .before .i .given .0 .0)
+unfolding table
 found c = sym (c .before .before .before .hold .ensures) ∙ c .before .i .given .1
 
 inside
     : (c : tie.After-known-told)
-    → (c .before .i .given .0 .0 < entry (c .before .before .before .before) .args .h .«interval_count»)
-    × Including (lists (entry (c .before .before .before .before))) (c .before .i .given .0 .0)
-    (block (c .before .before .before .before)) (rank (c .before .before .before .before))
+    → (c .before .i .given .0 .0 < entry (c .before .before .before .before .before) .args .h .«interval_count»)
+    × Including (lists (entry (c .before .before .before .before .before))) (c .before .i .given .0 .0)
+    (block (c .before .before .before .before .before)) (rank (c .before .before .before .before .before))
 inside c =
-    let k = c .before .before .before .before in
+    let k = c .before .before .before .before .before in
     holder-in (entry k .args .h) (lists (entry k)) (block k) (rank k) (c .before .i .given .0 .0) (found c)
 
-mul-t12 : tie.Need-mul-t12
-mul-t12 c = omega (arith, inside c .0, entry (c .before .before .before .before) .pre .0 .intervalLimit)
+mul-t13 : tie.Need-mul-t13
+mul-t13 c = omega (arith, inside c .0, entry (c .before .before .before .before .before) .pre .0 .intervalLimit)
 
-shared-slice-read-t15 : tie.Need-shared-slice-read-t15
-shared-slice-read-t15 c = omega (arith, inside (c .before) .0, entry (c .before .before .before .before .before) .pre .0 .adjustmentsLong)
+shared-slice-read-t16 : tie.Need-shared-slice-read-t16
+shared-slice-read-t16 c = omega (arith, inside (c .before) .0, entry (c .before .before .before .before .before .before) .pre .0 .adjustmentsLong)
 
-cast-t13 : tie.Need-cast-t13
-cast-t13 c = omega (arith, c .shared-slice-known6 .given (c .before .before .i .given .0 .0))
+cast-t14 : tie.Need-cast-t14
+cast-t14 c = omega (arith, c .shared-slice-known6 .given (c .before .before .i .given .0 .0))
 
-add-t18 : tie.Need-add-t18
-add-t18 c =
+add-t19 : tie.Need-add-t19
+add-t19 c =
     omega (
       arith,
-      here (c .before .before .before .before .before) .fits,
+      here (c .before .before .before .before .before .before) .fits,
       c .shared-slice-known6 .given (c .before .before .i .given .0 .0),
     )
 
-cast-t19 : tie.Need-cast-t19
-cast-t19 c =
-    let k = c .before .before .before .before .before in
+cast-t20 : tie.Need-cast-t20
+cast-t20 c =
+    let k = c .before .before .before .before .before .before in
     let (below, including) = inside (c .before) in
     omega (
       arith,
@@ -169,7 +176,7 @@ cast-t19 c =
 
 returns-2 : tie.Need-returns-2
 returns-2 c =
-    let k = c .before .before .before .before .before in
+    let k = c .before .before .before .before .before .before in
     let start = entry k in
     find-in (start .args .h) (lists start) (start .pre .0) _ _ (start .pre .1) (block k) (low k)
     (k .before .before .block-of-bin .ensures) (k .before .before2 .ensures) (rank k) (here k .ranked) _ (found (c .before))
@@ -189,14 +196,15 @@ bucket-at-spec =
     sub-rank-2
     cast-rank-2
     add-rank
+    cast-count
     cast-hold
     hold-requires
     enum-known-i
     enum-told
     returns
-    mul-t12
-    shared-slice-read-t15
-    cast-t13
-    add-t18
-    cast-t19
+    mul-t13
+    shared-slice-read-t16
+    cast-t14
+    add-t19
+    cast-t20
     returns-2)

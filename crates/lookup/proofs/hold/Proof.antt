@@ -1,6 +1,7 @@
 -- `lookup::hold` meets its contract: the search from the next interval on answers what the whole one does. Assumes nothing.
 use Prim.Native.Nat.{_-_}
 use native.Mathlib.Omega.{arith}
+use mathlib.Core.List.{[]}
 use mathlib.Core.Logic.{⊎-elim}
 use Rattle.model.specs.Table.{Arrays, arrays, table}
 use Rattle.lookup.proofs.Finding.{Searching, searching-starts, searching-ends, searching-found, searching-more}
@@ -8,21 +9,17 @@ use Rattle.lookup.proofs.hold.Statement.{statement}
 use Rattle.lookup.proofs.hold.Tie as tie
 
 abbrev Inv-loop : tie.InvT-loop
-Inv-loop tops ends blocks adjustments block rank count i₀ start₀ i start =
-    Searching (arrays tops ends blocks adjustments) count block rank i start
+Inv-loop count ends blocks adjustments block rank i₀ start₀ i start = Searching (arrays [] ends blocks adjustments) count block rank i start
 
 abbrev μ-loop : tie.MeasureT-loop
-μ-loop tops ends blocks adjustments block rank count i₀ start₀ i start = count - i
+μ-loop count ends blocks adjustments block rank i₀ start₀ i start = count - i
 
 -- the lent arrays, from the function's entry
 abbrev lists : tie.Start Inv-loop μ-loop → Arrays
-lists c = arrays (c .args .tops .now) (c .args .ends .now) (c .args .blocks .now) (c .args .adjustments .now)
-
-cast-count : tie.Need-cast-count Inv-loop μ-loop
-cast-count c = omega arith
+lists c = arrays [] (c .args .ends .now) (c .args .blocks .now) (c .args .adjustments .now)
 
 loop-holds : tie.Need-loop-holds Inv-loop μ-loop
-loop-holds c = let start = c .before in searching-starts (lists start) (start .args .h .«interval_count») (start .args .block) (start .args .rank)
+loop-holds c = searching-starts (lists c) (c .args .count) (c .args .block) (c .args .rank)
 
 mul-bucket : tie.Need-mul-bucket Inv-loop μ-loop
 mul-bucket c = omega arith
@@ -34,7 +31,7 @@ cast-bucket : tie.Need-cast-bucket Inv-loop μ-loop
 cast-bucket c = omega (arith, c .shared-slice-known .given (c .before .before .loop .i))
 
 add-bucket : tie.Need-add-bucket Inv-loop μ-loop
-add-bucket c = omega (arith, c .before .before .before .before .pre .1, c .shared-slice-known .given (c .before .before .loop .i))
+add-bucket c = omega (arith, c .before .before .before .pre .1, c .shared-slice-known .given (c .before .before .loop .i))
 
 mul-end : tie.Need-mul-end Inv-loop μ-loop
 mul-end c = omega arith
@@ -59,18 +56,18 @@ loop-less c = omega arith
 
 loop-again : tie.Need-loop-again Inv-loop μ-loop
 loop-again c =
-    let start = c .before .before .before .before .before .before .before in
+    let start = c .before .before .before .before .before .before in
     searching-more (lists start) _ _ _ _ _ (c .before .before .before .before .before .loop .inv) (omega arith)
     (λ b l. ⊎-elim (λ w. omega arith) (λ w. ⊎-elim (λ v. omega arith) (λ v. omega arith) w) (c .if2 .came))
 
 returns : tie.Need-returns Inv-loop μ-loop
 unfolding table
-returns c = let start = c .before .before .before in searching-ends (lists start) _ _ _ _ _ (c .before .loop .inv) (c .if1 .taken)
+returns c = let start = c .before .before in searching-ends (lists start) _ _ _ _ _ (c .before .loop .inv) (c .if1 .taken)
 
 returns-2 : tie.Need-returns-2 Inv-loop μ-loop
 unfolding table
 returns-2 c =
-    let start = c .before .before .before .before .before .before .before .before .before in
+    let start = c .before .before .before .before .before .before .before .before in
     searching-found (lists start) _ _ _ _ _ (c .before .before .before .before .before .before .before .loop .inv) (omega arith) (omega arith)
     (omega arith) (omega arith)
 
@@ -80,7 +77,6 @@ hold-spec =
     (tie.spec
     Inv-loop
     μ-loop
-    cast-count
     loop-holds
     mul-bucket
     shared-slice-read-bucket

@@ -6,22 +6,27 @@ use lib.ListN.{getD}
 use Rattle.model.specs.Basics.{before}
 use Rattle.model.proofs.Rules.{before-next}
 use Rattle.lookup.specs.Search.{Among}
-use Rattle.lookup.proofs.Narrowing.{past-most, among-less}
+use Rattle.lookup.proofs.Narrowing.{past-most, among-all, among-less}
 use Rattle.lookup.proofs.Searches.{adjustment-below, located-at, located-outside}
 use Rattle.lookup.proofs.locate.Statement.{statement}
 use Rattle.lookup.proofs.locate.Tie as tie
 
 abbrev Inv-loop : tie.InvT-loop
-Inv-loop tops ends blocks adjustments bucket low₀ count₀ low count = Among ends (low₀ + count₀) bucket low count
+Inv-loop ends adjustments bucket low₀ count₀ low count = Among ends (low₀ + count₀) bucket low count
 
 abbrev μ-loop : tie.MeasureT-loop
-μ-loop tops ends blocks adjustments bucket low₀ count₀ low count = count
+μ-loop ends adjustments bucket low₀ count₀ low count = count
 
 returns : tie.Need-returns Inv-loop μ-loop
-returns c = sym (located-outside _ _ _ (c .if1 .taken))
+returns c tops blocks sound = sym (located-outside _ _ _ (c .if1 .taken))
+
+cast-narrow : tie.Need-cast-narrow Inv-loop μ-loop
+cast-narrow c = omega arith
 
 narrow-requires : tie.Need-narrow-requires Inv-loop μ-loop
-narrow-requires c κs = (c .before .before .before .before .before .before .pre, omega arith)
+narrow-requires c κs =
+    let start = c .before .before .before .before .before in
+    (among-all _ _ _ (start .pre .some) (omega (arith, start .pre .last)), start .pre .rising)
 
 loop-holds : tie.Need-loop-holds Inv-loop μ-loop
 loop-holds c =
@@ -49,39 +54,39 @@ loop-less c = omega arith
 loop-again : tie.Need-loop-again Inv-loop μ-loop
 loop-again c =
     let turn = c .before .before .before in
-    let start = turn .before .before .before .before .before .before .before .before in
-    among-less (λ i l. start .pre .endsRise i (omega (arith, turn .before .narrow .ensures .1 .within))) (turn .loop .inv) _ (omega arith)
+    let start = turn .before .before .before .before .before .before .before in
+    among-less (λ i l. start .pre .rising .rise i (omega (arith, turn .before .narrow .ensures .1 .within))) (turn .loop .inv) _ (omega arith)
     (c .past .ensures)
 
-mul-t16 : tie.Need-mul-t16 Inv-loop μ-loop
-mul-t16 c = omega arith
+mul-t9 : tie.Need-mul-t9 Inv-loop μ-loop
+mul-t9 c = omega arith
 
-shared-slice-read-t18 : tie.Need-shared-slice-read-t18 Inv-loop μ-loop
-shared-slice-read-t18 c = omega arith
+shared-slice-read-t16 : tie.Need-shared-slice-read-t16 Inv-loop μ-loop
+shared-slice-read-t16 c = omega arith
 
 -- after the loop: the bucket is before the end of the interval found
 inside
-    : (c : tie.After-shared-slice-known6 Inv-loop μ-loop)
-    → c .before .before .before .before .before .before .before .before .before .before .args .bucket < getD
-    (c .before .before .before .before .before .before .before .before .before .before .args .ends .now) (c .before .before .loop .low) 0
+    : (c : tie.After-shared-slice-known4 Inv-loop μ-loop)
+    → c .before .before .before .before .before .before .before .before .before .args .bucket < getD
+    (c .before .before .before .before .before .before .before .before .before .args .ends .now) (c .before .before .loop .low) 0
 inside c =
     let turn = c .before .before .loop in
-    let ends = c .before .before .before .before .before .before .before .before .before .before .args .ends .now in
+    let ends = c .before .before .before .before .before .before .before .before .before .args .ends .now in
     let one : turn .low + turn .count ≡ turn .low + 1 = omega arith in
     omega (arith, turn .inv .to, ap (before ends) one, before-next ends (turn .low))
 
-sub-t19 : tie.Need-sub-t19 Inv-loop μ-loop
-sub-t19 c =
+sub-t17 : tie.Need-sub-t17 Inv-loop μ-loop
+sub-t17 c =
     let turn = c .before .before in
-    let start = turn .before .before .before .before .before .before .before .before in
-    omega (arith, adjustment-below (start .args .h) _ (start .pre) (turn .loop .low) (omega arith))
+    let start = turn .before .before .before .before .before .before .before in
+    omega (arith, start .pre .below (turn .loop .low) (omega arith))
 
 returns-2 : tie.Need-returns-2 Inv-loop μ-loop
-returns-2 c =
+returns-2 c tops blocks sound =
     let turn = c .before .before in
-    let start = turn .before .before .before .before .before .before .before .before in
+    let start = turn .before .before .before .before .before .before .before in
     sym
-    (located-at (start .args .h) _ (start .pre) (turn .loop .low) (start .args .bucket) (omega arith) (turn .loop .inv .from) (inside c)
+    (located-at (start .args .h) _ sound (turn .loop .low) (start .args .bucket) (omega arith) (turn .loop .inv .from) (inside c)
     (omega arith))
 
 pub locate-spec : {M : Type 1} → statement M
@@ -91,6 +96,7 @@ locate-spec =
     Inv-loop
     μ-loop
     returns
+    cast-narrow
     narrow-requires
     loop-holds
     sub-count
@@ -100,7 +106,7 @@ locate-spec =
     add-low
     loop-less
     loop-again
-    mul-t16
-    shared-slice-read-t18
-    sub-t19
+    mul-t9
+    shared-slice-read-t16
+    sub-t17
     returns-2)

@@ -7,18 +7,13 @@ use Rattle.lookup.proofs.narrow.Statement.{statement}
 use Rattle.lookup.proofs.narrow.Tie as tie
 
 abbrev Inv-loop : tie.InvT-loop
-Inv-loop tops ends blocks adjustments bucket low₀ count₀ low count = Among ends count₀ bucket low count
+Inv-loop ends k bucket low₀ count₀ low count = Among ends k bucket low count
 
 abbrev μ-loop : tie.MeasureT-loop
-μ-loop tops ends blocks adjustments bucket low₀ count₀ low count = count
-
-cast-count : tie.Need-cast-count Inv-loop μ-loop
-cast-count c = omega arith
+μ-loop ends k bucket low₀ count₀ low count = count
 
 loop-holds : tie.Need-loop-holds Inv-loop μ-loop
-loop-holds c =
-    let start = c .before .before .before .before .before in
-    among-all _ _ _ (start .pre .0 .someIntervals) (omega (arith, start .pre .0 .lastEnd, start .pre .1))
+loop-holds c = c .before .pre .0
 
 mul-count : tie.Need-mul-count Inv-loop μ-loop
 mul-count c = omega arith
@@ -80,7 +75,7 @@ past-requires-3 c κs = tt
 loop-again : tie.Need-loop-again Inv-loop μ-loop
 loop-again c =
     let turn = c .before .before .before .before .before .before .before in
-    among-quarter (turn .before .before .before .before .before .before .pre .0 .endsRise) (turn .loop .inv) (turn .loop .count / 4)
+    among-quarter (turn .before .before .pre .1 .rise) (turn .loop .inv) (turn .loop .count / 4)
     _ _ _ (omega arith) (omega arith) (c .before .before .before .before .past .ensures) (c .before .before .past2 .ensures)
     (c .past3 .ensures)
 
@@ -109,7 +104,6 @@ narrow-spec =
     (tie.spec
     Inv-loop
     μ-loop
-    cast-count
     loop-holds
     mul-count
     sub-count

@@ -2,13 +2,13 @@
 use mathlib.Core.Path.{sym, _∙_}
 use native.Mathlib.Omega.{arith}
 use Rattle.model.specs.Table.{firstBin, Arrays, arrays}
-use Rattle.lookup.proofs.Searches.{Reached, reached, place-at, place-past}
+use Rattle.lookup.proofs.Searches.{sound-locatable, Reached, reached, place-at, place-past}
 use borrow.Author.Needs.{needs}
 use Rattle.lookup.proofs.placed.Statement.{statement}
 use Rattle.lookup.proofs.placed.Tie as tie
 
 locate-requires : tie.Need-locate-requires
-locate-requires c κs = search needs
+locate-requires c κs = sound-locatable _ _ (c .before .before .before .before .pre)
 
 enum-known-interval : tie.Need-enum-known-interval
 enum-known-interval c = search needs
@@ -16,8 +16,13 @@ enum-known-interval c = search needs
 enum-told : tie.Need-enum-told
 enum-told c = search needs
 
+-- the function's entry, from after the search
+abbrev entry2 : tie.After-locate → tie.Start
+entry2 c = c .before .before .before .before .before
+
 returns : tie.Need-returns
-returns c = sym (place-past _ _ (sym (c .before .before .locate .ensures) ∙ c .enum-told .given .1))
+returns c =
+    sym (place-past _ _ (sym (c .before .before .locate .ensures _ _ (entry2 (c .before .before) .pre)) ∙ c .enum-told .given .1))
 
 -- the function's entry, and the lent arrays
 abbrev entry : tie.After-known-told → tie.Start
@@ -28,7 +33,7 @@ lists c = arrays (c .args .tops .now) (c .args .ends .now) (c .args .blocks .now
 
 -- the interval that was found
 found : (c : tie.After-known-told) → Reached (entry c .args .h) (lists (entry c)) (c .before .interval .given .0 .0)
-found c = reached _ _ (entry c .pre) _ _ _ (sym (c .before .before .before .locate .ensures) ∙ c .before .interval .given .1)
+found c = reached _ _ (entry c .pre) _ _ _ (sym (c .before .before .before .locate .ensures _ _ (entry c .pre)) ∙ c .before .interval .given .1)
 
 mul-place-in : tie.Need-mul-place-in
 mul-place-in c = let f = found c in omega arith
@@ -50,7 +55,7 @@ returns-2 c =
     c .place-in .ensures
     ∙ sym
     (place-at (entry k .args .h) _ _ _ _
-    (sym (k .before .before .before .locate .ensures) ∙ k .before .interval .given .1) (found k))
+    (sym (k .before .before .before .locate .ensures _ _ (entry k .pre)) ∙ k .before .interval .given .1) (found k))
 
 pub placed-spec : {M : Type 1} → statement M
 placed-spec =
