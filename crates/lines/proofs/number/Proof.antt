@@ -38,6 +38,10 @@ returns-3 : tie.Need-returns-3 Inv-loop μ-loop
 returns-3 c =
     sym (digits-many (c .before .before .before .before .before .before .loop .inv) (omega arith) (λ e. omega arith) (omega arith))
 
+loop-again : tie.Need-loop-again Inv-loop μ-loop
+loop-again c =
+    digits-more (c .before .before .before .before .before .before .loop .inv) (omega arith) (λ e. omega arith) (omega arith) (omega arith) (omega arith)
+
 mul-value : tie.Need-mul-value Inv-loop μ-loop
 mul-value c = omega (arith, digits-small (c .before .before .before .before .before .before .loop .inv) (omega arith))
 
@@ -53,10 +57,6 @@ add-end c = omega arith
 loop-less : tie.Need-loop-less Inv-loop μ-loop
 loop-less c = omega arith
 
-loop-again : tie.Need-loop-again Inv-loop μ-loop
-loop-again c =
-    digits-more (c .before .before .before .before .before .before .loop .inv) (omega arith) (λ e. omega arith) (omega arith) (omega arith) (omega arith)
-
 -- no byte of the word is left
 stopped : (c : tie.Left-loop Inv-loop μ-loop) → wordAt (c .before .before .args .line .now) (c .before .loop .end) ≡ []
 stopped c =
@@ -69,11 +69,11 @@ returns-4 c = sym (digits-empty (c .before .before .loop .inv) (stopped (c .befo
 returns-5 : tie.Need-returns-5 Inv-loop μ-loop
 returns-5 c = sym (digits-large (c .before .before .before .loop .inv) (stopped (c .before .before)) (omega arith))
 
-cast-t13 : tie.Need-cast-t13 Inv-loop μ-loop
-cast-t13 c = omega arith
-
 returns-6 : tie.Need-returns-6 Inv-loop μ-loop
 returns-6 c = digits-end (c .before .before .before .loop .inv) (stopped (c .before .before)) (λ e. omega arith) (omega arith)
+
+cast-t13 : tie.Need-cast-t13 Inv-loop μ-loop
+cast-t13 c = omega arith
 
 pub number-spec : {M : Type 1} → statement M
 number-spec =
