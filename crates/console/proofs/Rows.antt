@@ -151,31 +151,37 @@ module _ (t : Table) (s : Shape) (q : ℕ) (buffer after : List ℕ) (z : Reloca
             omega arith
       ]
 
-  -- an accepted growth with at least q rows
-  module _ (g : Growth t s q) where
+  -- an accepted growth to sizes s₀ with at least q rows, where those are asked for
+  module _ (s₀ : Shape) (g : Growth t s₀ q) (asked : s ≡ s₀) where
+    abbrev here : List (List ℕ)
+    here = page q (length buffer) (growthRows t s₀)
+
     unrefused : movesRefusal t s q ≡ 0
     unfolding orderTests first if_then_else_
-    unrefused = first-after (growthTests t s) _ (growth-numbered t s) (g .0) ∙ rw (le-ltb (length (growthRows t s)) q (g .1))
+    unrefused =
+        rw asked (first-after (growthTests t s₀) _ (growth-numbered t s₀) (g .0) ∙ rw (le-ltb (length (growthRows t s₀)) q (g .1)))
 
-    replied : z ≡ record { refusal = 0; written = length numbers; total = length (growthRows t s) }
+    replied : z ≡ record { refusal = 0; written = length here; total = length (growthRows t s₀) }
     unfolding relocationsAnswer
-    replied = m .reply ∙ accepted _ _ _ unrefused
+    replied = rw (← asked) (m .reply ∙ accepted _ _ _ unrefused)
 
-    stored : after ≡ over (joined numbers) buffer
+    stored : after ≡ over (joined here) buffer
     unfolding bufferAfter
-    stored = m .lent ∙ accepted _ _ _ unrefused
+    stored = rw (← asked) (m .lent ∙ accepted _ _ _ unrefused)
 
-    same : rowsIn after (z .written) ≡ numbers
-    same = ap₂ rowsIn stored (ap (λ (y : RelocationsReply). y .written) replied) ∙ rows-over numbers buffer five
+    same : rowsIn after (z .written) ≡ here
+    same =
+        ap₂ rowsIn stored (ap (λ (y : RelocationsReply). y .written) replied)
+        ∙ rows-over here buffer (fives-page q (length buffer) _ (rows-five t (expanded t s₀)))
 
     pub moves-listed
-        : (x : ℕ) (old new : List ℕ) → Lines (length buffer / 5) old → x ≡ length (moveText (rowsIn after (z .written)))
-        → new ≡ sets old 0 (moveText (rowsIn after (z .written)))
-        → Listed (growthRows t s) q buffer after old new (record { rows = z .written; total = z .total; length = x })
-    moves-listed x old new room a b =
+        : (x n total : ℕ) (old new : List ℕ) → Lines (length buffer / 5) old → x ≡ length (moveText (rowsIn after (z .written)))
+        → new ≡ sets old 0 (moveText (rowsIn after (z .written))) → n ≡ z .written → total ≡ z .total
+        → Listed (growthRows t s₀) q buffer after old new (record { rows = n; total = total; length = x })
+    moves-listed x n total old new room a b few whole =
         record {
-          rows = ap (λ (y : RelocationsReply). y .written) replied;
-          total = ap (λ (y : RelocationsReply). y .total) replied;
+          rows = few ∙ ap (λ (y : RelocationsReply). y .written) replied;
+          total = whole ∙ ap (λ (y : RelocationsReply). y .total) replied;
           numbers = stored;
           size = a ∙ ap (λ rs. length (moveText rs)) same;
           fits = omega (arith, a, text-short after (z .written), moves-room old room);

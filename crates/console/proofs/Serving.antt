@@ -32,6 +32,14 @@ use Rattle.console.proofs.Rows.{none-listed, moves-none, moves-grown}
 abbrev pub replied : Step → ℕ → Reply
 replied d x = record { state = d .state; at = x; list = isList (d .answer) }
 
+-- an answer that prints vs, from place x up to place y, and no list
+pub told-reply
+    : (d : Step) (x y : ℕ) (old new vs : List ℕ) → shown (d .answer) ≡ vs → isList (d .answer) ≡ false → y ≡ x + length vs
+    → new ≡ sets old x vs
+    → (record { state = d .state; at = y; list = false } ≡ replied d (x + length (shown (d .answer))))
+    × (new ≡ sets old x (shown (d .answer)))
+told-reply d x y old new vs e l p b = rw (e, l, p, b) (refl, refl)
+
 -- what is printed at once is short
 pub shown-short : (a : Answer) → length (shown a) ≤ lineRoom
 unfolding shown text

@@ -72,7 +72,7 @@ module _ (from size : ℕ) (block : List ℕ) (low : from ≤ size) (high : size
   rest-length = length-drop from (take size block) ∙ ap (λ n. n - from) (length-take-le size block high)
 
   -- those that are read
-  pub received-some
+  received-some
       : (got : ℕ) → 0 < got → size + got ≤ length block
       → drop from (take (size + got) block) ≡ rest ++ heard (take got (drop size block)) rest
   received-some got some fits =
@@ -86,7 +86,7 @@ module _ (from size : ℕ) (block : List ℕ) (low : from ≤ size) (high : size
     ended : heard [] rest ≡ heard (take got (drop size block)) rest
     ended = let zero : got ≡ 0 = omega arith in rw zero
 
-    pub received-feed
+    received-feed
         : from < size → size < length block
         → drop from (take (size + 1) (set block size 10)) ≡ rest ++ heard (take got (drop size block)) rest
     received-feed some fits =
@@ -95,29 +95,52 @@ module _ (from size : ℕ) (block : List ℕ) (low : from ≤ size) (high : size
         ∙ rest-more (10 ∷ [])
         ∙ ap (λ (l : List ℕ). rest ++ l) (sym (heard-end rest (omega (arith, rest-length))) ∙ ended)
 
-    pub received-none : size ≤ from → rest ≡ rest ++ heard (take got (drop size block)) rest
+    received-none : size ≤ from → rest ≡ rest ++ heard (take got (drop size block)) rest
     unfolding heard
     received-none none =
         let e : rest ≡ [] = drop-of-length-le (take size block) {i = from} (omega (arith, length-take size block)) in
         rw (← ended, e)
 
 -- the machine, with the bytes up to another place
-pub receives
-    : (m : Machine) (got size : ℕ) (block block′ : List ℕ) → m .size ≤ size → size ≤ length block′
-    → drop (m .from) (take size block′)
-    ≡ drop (m .from) (bytesOf m block) ++ heard (take got (drop (m .size) block)) (drop (m .from) (bytesOf m block))
-    → Receives m got block (record { state = m .state; listing = m .listing; row = m .row; from = m .from; size = size }) block′
-unfolding stands
-receives m got size block block′ low high e =
-    record {
-      stands = λ one two. ap (λ (r : List ℕ). record { listing = m .listing; row = m .row; session = session (held (rack (m .state) one two)); rest = r }) e;
-      ready = λ one two r.
-          record {
-            sane = record { right = r .sane .right; row = r .sane .row };
-            from = omega (arith, r .from);
-            size = high;
-          };
-    }
+module _ (m : Machine) (got size : ℕ) (block : List ℕ) (low : m .from ≤ m .size) (high : m .size ≤ length block) where
+  abbrev next : Machine
+  next = record { state = m .state; listing = m .listing; row = m .row; from = m .from; size = size }
+
+  receives
+      : (block′ : List ℕ) → m .size ≤ size → size ≤ length block′
+      → drop (m .from) (take size block′)
+      ≡ drop (m .from) (bytesOf m block) ++ heard (take got (drop (m .size) block)) (drop (m .from) (bytesOf m block))
+      → Receives m got block next block′
+  unfolding stands
+  receives block′ up within e =
+      record {
+        stands = λ one two.
+            ap
+            (λ (r : List ℕ). record { listing = m .listing; row = m .row; session = session (held (rack (m .state) one two)); rest = r }) e;
+        ready = λ one two r.
+            record {
+              sane = record { right = r .sane .right; row = r .sane .row };
+              from = omega (arith, r .from);
+              size = within;
+            };
+      }
+
+  pub receives-some : 0 < got → m .size + got ≤ length block → size ≡ m .size + got → Receives m got block next block
+  receives-some some fits e =
+      receives block (omega arith) (omega arith)
+      (ap (λ n. drop (m .from) (take n block)) e ∙ received-some (m .from) (m .size) block low high got some fits)
+
+  pub receives-feed
+      : got ≤ 0 → m .from < m .size → m .size < length block → size ≡ m .size + 1
+      → Receives m got block next (set block (m .size) 10)
+  receives-feed end some fits e =
+      receives (set block (m .size) 10) (omega arith) (simp length-set (omega arith))
+      (ap (λ n. drop (m .from) (take n (set block (m .size) 10))) e ∙ received-feed (m .from) (m .size) block low high got end some fits)
+
+  pub receives-none : got ≤ 0 → m .size ≤ m .from → size ≡ m .size → Receives m got block next block
+  receives-none end none e =
+      receives block (omega arith) (omega arith)
+      (ap (λ n. drop (m .from) (take n block)) e ∙ received-none (m .from) (m .size) block low high got end none)
 
 -- THE FIRST BYTES KEPT
 

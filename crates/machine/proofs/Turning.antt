@@ -8,7 +8,7 @@ use native.Mathlib.Omega.{arith}
 use lib.ListN.{length, take, drop, length-append, length-take, length-drop}
 use lib.Seq.{sets, sets-eq, length-sets, take-all, take-at, length-take-le, drop-drop}
 use lib.Dec.{ltb}
-use borrow.Author.Tests.{ltb-true}
+use borrow.Author.Tests.{lt-ltb, le-ltb}
 use Rattle.model.specs.Basics.{joined}
 use Rattle.model.specs.Table.{Arrays, over}
 use Rattle.model.specs.Relocations.{page}
@@ -75,44 +75,64 @@ module _
     pub page-row : m .row + p .rows ≤ p .total
     page-row = omega (arith, s .rows, s .total, page-length (m .row) (length buffer) (movesIn k), sane .row l)
 
-    abbrev left : ℕ
-    left = p .total - (m .row + p .rows)
-
     said : take (p .length) out′ ≡ moveText (page (m .row) (length buffer) (movesIn k))
     said =
         ap (take (p .length)) (s .bytes)
         ∙ stored out (moveText (page (m .row) (length buffer) (movesIn k))) 0 (p .length) (omega (arith, s .size)) (s .fits)
 
-    pub paged
-        : 5 ≤ length buffer
-        → Pages m k out
-        (record {
-          machine = record { state = m .state; listing = ltb 0 left; row = m .row + p .rows; from = m .from; size = m .size };
-          put = p .length;
-          more = ltb 0 left;
-        })
-        k out′
-    unfolding stands
-    paged some =
-        record {
-          went = λ bytes within.
-              record {
-                goes = page-goes (movesIn k) (length buffer) (p .rows) left refl l (s .rows) (omega (arith, page-row, s .total)) said;
-                sane = record { right = sane .right; row = λ e. omega (arith, page-row, s .total) };
-                room = omega (arith, s .fits, ap length (s .bytes), length-sets out 0 (moveText (page (m .row) (length buffer) (movesIn k))));
-                size = refl;
-                onward = omega arith;
-                within = within;
-              };
-          done = λ e. e;
-          more = λ e.
-              omega (
-                arith,
-                s .size,
-                text-some (page (m .row) (length buffer) (movesIn k))
-                    (omega (arith, ltb-true 0 left e, s .total, s .rows, page-length (m .row) (length buffer) (movesIn k))),
-              );
-        }
+    -- the next row; and there is more as long as a row is left
+    module _
+        (row : ℕ) (more : Bool) (next : row ≡ m .row + p .rows) (left : more ≡ true → 0 < p .total - row)
+        (none : more ≡ false → p .total - row ≡ 0) (some : 5 ≤ length buffer)
+      where
+        test : (b : Bool) (n : ℕ) → (b ≡ true → 0 < n) → (b ≡ false → n ≡ 0) → b ≡ ltb 0 n
+        test true n y z = sym (lt-ltb 0 n (y refl))
+        test false n y z = sym (le-ltb 0 n (omega (arith, z refl)))
+
+        goes
+            : (bytes : List ℕ)
+            → Goes [] (stands m k bytes) (take (p .length) out′)
+            (record { listing = more; row = row; session = session (held k); rest = drop (m .from) bytes })
+        unfolding stands
+        goes bytes =
+            rw (test more (p .total - row) left none, next)
+            (page-goes (movesIn k) (length buffer) (p .rows) (p .total - (m .row + p .rows)) refl l (s .rows) (omega (arith, page-row, s .total)) said)
+
+        pub paged
+            : Pages m k out
+            (record {
+              machine = record { state = m .state; listing = more; row = row; from = m .from; size = m .size };
+              put = p .length;
+              more = more;
+            })
+            k out′
+        unfolding stands
+        paged =
+            record {
+              went = λ bytes within.
+                  record {
+                    goes = goes bytes;
+                    sane = record { right = sane .right; row = λ e. omega (arith, page-row, s .total) };
+                    room =
+                        omega (
+                          arith,
+                          s .fits,
+                          ap length (s .bytes),
+                          length-sets out 0 (moveText (page (m .row) (length buffer) (movesIn k))),
+                        );
+                    size = refl;
+                    onward = omega arith;
+                    within = within;
+                  };
+              done = λ e. e;
+              more = λ e.
+                  omega (
+                    arith,
+                    s .size,
+                    text-some (page (m .row) (length buffer) (movesIn k))
+                        (omega (arith, left e, s .total, s .rows, page-length (m .row) (length buffer) (movesIn k))),
+                  );
+            }
 
 pub page-none
     : (m : Machine) (k : Rack) (out : List ℕ) → m .listing ≡ false → Sane m k
@@ -148,45 +168,46 @@ module _
 
     -- the line up to the next line feed
     module _
-        (put : ℕ) (out l : List ℕ) (r : Reply) (one two : Arrays) (out′ : List ℕ) (some : end ≡ length bytes → ⊥)
+        (put x : ℕ) (out l : List ℕ) (r : Reply) (one two : Arrays) (out′ : List ℕ) (some : end ≡ length bytes → ⊥)
         (line : l ≡ take (end - m .from) (drop (m .from) bytes)) (sane : Sane m k)
-        (room : put + lineRoom ≤ length out) (s : Served k l put out r (rack (r .state) one two) out′)
+        (room : put + lineRoom ≤ length out) (s : Served k l x out r (rack (r .state) one two) out′)
+        (row from : ℕ) (behind : x ≡ put) (first : row ≡ 0) (past : from ≡ end + 1)
       where
         abbrev next : Machine
-        next = record { state = r .state; listing = r .list; row = 0; from = end + 1; size = m .size }
+        next = record { state = r .state; listing = r .list; row = row; from = from; size = m .size }
 
         line-same : l ≡ upToFeed (drop (m .from) bytes)
         line-same =
             let n : end - m .from ≡ length (upToFeed (drop (m .from) bytes)) = omega arith in
             line ∙ ap (λ n. take n (drop (m .from) bytes)) n ∙ span-first 10 (drop (m .from) bytes)
 
-        behind : drop (end + 1) bytes ≡ drop (suc (length l)) (drop (m .from) bytes)
-        behind =
-            let n : m .from + suc (length l) ≡ end + 1 = omega (arith, ap length line-same) in
+        next-line : drop from bytes ≡ drop (suc (length l)) (drop (m .from) bytes)
+        next-line =
+            let n : m .from + suc (length l) ≡ from = omega (arith, ap length line-same) in
             sym (drop-drop (suc (length l)) (m .from) bytes ∙ ap (λ n. drop n bytes) n)
 
         obeyed : session (held (rack (r .state) one two)) ≡ after (session (held k)) l
         obeyed = ap session (s .maps) ∙ session-kept (held k) l
 
         said-line
-            : take (r .at) out′ ++ listed (r .list) 0 (session (held (rack (r .state) one two)))
+            : take (r .at) out′ ++ listed (r .list) row (session (held (rack (r .state) one two)))
             ≡ take put out ++ printed (session (held k)) l
         unfolding answerTo
         said-line =
-            rw (obeyed, s .bytes, s .list)
-            (ap (λ (x : List ℕ). x ++ listed (isList (answerTo k l)) 0 (after (session (held k)) l))
-            (stored out (shown (answerTo k l)) put (r .at) (s .place) (omega (arith, s .place, shown-short (answerTo k l))))
-            ∙ append-assoc (take put out) (shown (answerTo k l)) (listed (isList (answerTo k l)) 0 (after (session (held k)) l))
-            ∙ ap (λ (x : List ℕ). take put out ++ x) (session-spoken (session (held k)) l))
+            rw (first, obeyed, s .bytes, s .list, ← behind)
+            (ap (λ (t : List ℕ). t ++ listed (isList (answerTo k l)) 0 (after (session (held k)) l))
+            (stored out (shown (answerTo k l)) x (r .at) (s .place) (omega (arith, s .place, shown-short (answerTo k l))))
+            ∙ append-assoc (take x out) (shown (answerTo k l)) (listed (isList (answerTo k l)) 0 (after (session (held k)) l))
+            ∙ ap (λ (t : List ℕ). take x out ++ t) (session-spoken (session (held k)) l))
 
         pub line-went : Went m k bytes put out next (rack (r .state) one two) (r .at) out′
         unfolding stands
         line-went =
             record {
               goes =
-                  line-goes {s = stands m k bytes} {s′ = stands next (rack (r .state) one two) bytes} l line-same none (omega (arith, end-within (m .from) end bytes within at, length-drop (m .from) bytes)) obeyed behind said-line;
+                  line-goes {s = stands m k bytes} {s′ = stands next (rack (r .state) one two) bytes} l line-same none (omega (arith, end-within (m .from) end bytes within at, length-drop (m .from) bytes)) obeyed next-line said-line;
               sane = record { right = subst Right (sym (s .maps)) (right-next (held k) (sane .right) (read l)); row = λ e. omega arith };
-              room = omega (arith, s .place, shown-short (answerTo k l), ap length (s .bytes), length-sets out put (shown (answerTo k l)));
+              room = omega (arith, s .place, shown-short (answerTo k l), ap length (s .bytes), length-sets out x (shown (answerTo k l)));
               size = refl;
               onward = omega arith;
               within = omega (arith, end-within (m .from) end bytes within at);
@@ -250,14 +271,15 @@ module _
         (idle : Idle (stands (r .machine) k′ bytes)) (kept : ℕ) (block′ : List ℕ)
         (count : kept ≡ length (take keptBytes (drop (r .machine .from) (bytesOf (r .machine) block))))
         (moved : block′ ≡ over (take keptBytes (drop (r .machine .from) (bytesOf (r .machine) block))) block)
+        (size : ℕ) (all : size ≡ kept)
       where
         abbrev new : List ℕ
         new = take keptBytes (drop (r .machine .from) (bytesOf (r .machine) block))
 
-        front : take kept block′ ≡ take keptBytes (drop (r .machine .from) bytes)
+        front : take size block′ ≡ take keptBytes (drop (r .machine .from) bytes)
         unfolding over
         front =
-            ap (take kept) moved
+            ap₂ take all moved
             ∙ take-at new (drop (length new) block) kept (sym count)
             ∙ ap (λ (l : List ℕ). take keptBytes (drop (r .machine .from) l)) (sym same)
 
@@ -269,7 +291,7 @@ module _
             : Turns m k block
             (record {
               machine =
-                  record { state = r .machine .state; listing = r .machine .listing; row = r .machine .row; from = 0; size = kept };
+                  record { state = r .machine .state; listing = r .machine .listing; row = r .machine .row; from = 0; size = size };
               put = r .put;
               more = false;
             })
@@ -342,12 +364,14 @@ module _
             : r .more ≡ false → (kept : ℕ) (block′ : List ℕ)
             → kept ≡ length (take keptBytes (drop (r .machine .from) (bytesOf (r .machine) block)))
             → block′ ≡ over (take keptBytes (drop (r .machine .from) (bytesOf (r .machine) block))) block
+            → (size : ℕ) → size ≡ kept
             → Turns m k block
             (record {
               machine =
-                  record { state = r .machine .state; listing = r .machine .listing; row = r .machine .row; from = 0; size = kept };
+                  record { state = r .machine .state; listing = r .machine .listing; row = r .machine .row; from = 0; size = size };
               put = r .put;
               more = false;
             })
             k₂ block′ out₂
-        kept-turns none kept block′ count moved = turns-done r ready bytes went-lines (lines .done none) kept block′ count moved
+        kept-turns none kept block′ count moved size all =
+            turns-done r ready bytes went-lines (lines .done none) kept block′ count moved size all

@@ -3,6 +3,8 @@ use console::list::list;
 use console::step::step;
 use lines::feed_at;
 use model::table::Header;
+use print::LINE;
+use print::MOVE;
 use session::state::Stage;
 use session::state::State;
 ghost use mathlib.Core.Path.{_≡_};
@@ -19,13 +21,15 @@ pub const KEPT: usize = 65;
 // A block: what is kept of an unfinished line, and what is read behind it.
 pub const BLOCK: usize = KEPT + 65_536;
 
-// The numbers of a page of the move list, five a row.
-pub const NUMBERS: usize = 5 * 8_192;
+// A page of the move list: its rows, and their numbers, five a row.
+const ROWS: usize = 8_192;
 
-// The buffer: room for the lines of a page, 60 bytes each at the most, and behind them for a reply.
-pub const OUT: usize = LAST + 64;
+pub const NUMBERS: usize = 5 * ROWS;
 
-const LAST: usize = 60 * 8_192;
+// The buffer: room for the lines of a page, and behind its last place for a reply.
+const LAST: usize = MOVE * ROWS;
+
+pub const OUT: usize = LAST + LINE;
 
 // What is proved of a whole input: specs/Claims.antt.
 pub fn claims()
@@ -169,14 +173,14 @@ fn answer(
     ensures { λ r. ⌜ AnswersLines m block tops ends blocks adjustments «second_tops» «second_ends» «second_blocks» «second_adjustments» put out r ⌝ }
 {
     let mut m = m;
-    let mut put = put;
-    while put <= LAST {
+    let mut at = put;
+    while at <= LAST {
         let from = m.from;
         let end = feed_at(block, from);
         if end == block.len() {
             return After {
                 machine: m,
-                put,
+                put: at,
                 more: false,
             };
         }
@@ -194,10 +198,10 @@ fn answer(
             second_blocks,
             second_adjustments,
             out,
-            put,
+            at,
         );
         let state = reply.state;
-        put = reply.at;
+        at = reply.at;
         m.state = state;
         m.listing = reply.list;
         m.row = 0;
@@ -208,7 +212,7 @@ fn answer(
     }
     After {
         machine: m,
-        put,
+        put: at,
         more: true,
     }
 }

@@ -11,6 +11,11 @@ ghost use lib.Seq.{sets};
 ghost use Rattle.model.specs.Console.{line};
 ghost use Rattle.print.specs.Numbers.{lineRoom, numbers, lineOf};
 
+// The room that a line is given, and how long a `move` line is at the most.
+pub const LINE: usize = 64;
+
+pub const MOVE: usize = 60;
+
 // A word.
 fn put_word(word: &[u8], out: &mut [u8], at: usize) -> usize
     requires { ⌜ at + length (now word) ≤ length (now out) ⌝ }

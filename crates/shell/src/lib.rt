@@ -26,8 +26,8 @@ fn write(out: &[u8], n: usize) -> bool
 // Reads behind the first `size` bytes of a block: how many bytes, 0 where the input has ended or cannot be read.
 fn read(block: &mut [u8], size: usize) -> usize
     requires { ⌜ size < length (now block) ⌝ }
-    ensures room { λ r. ⌜ size + r ≤ length (now (block .exit)) ⌝ }
     ensures front { λ _. ⌜ take size (now (block .exit)) ≡ take size (now (block .entry)) ⌝ }
+    ensures room { λ r. ⌜ size + r ≤ length (now (block .exit)) ⌝ }
 {
     let rest = &mut block[size..];
     let got = libc::read(0, rest);

@@ -17,16 +17,16 @@ use Rattle.console.proofs.step.step.Reads as step-reads
 use Rattle.lines.proofs.feed_at.Reads as feed-at-reads
 
 abbrev Inv-loop : tie.InvT-loop
-Inv-loop block tops₀ ends₀ blocks₀ adjustments₀ second-tops₀ second-ends₀ second-blocks₀ second-adjustments₀ put out₀ m₀ put₀ tops ends blocks adjustments second-tops second-ends second-blocks second-adjustments out m put' =
+Inv-loop block tops₀ ends₀ blocks₀ adjustments₀ second-tops₀ second-ends₀ second-blocks₀ second-adjustments₀ put out₀ m₀ at₀ tops ends blocks adjustments second-tops second-ends second-blocks second-adjustments out m at =
     Went m₀
     (rack (m₀ .state) (arrays tops₀ ends₀ blocks₀ adjustments₀) (arrays second-tops₀ second-ends₀ second-blocks₀ second-adjustments₀))
     block put out₀ m
     (rack (m .state) (arrays tops ends blocks adjustments) (arrays second-tops second-ends second-blocks second-adjustments))
-    put' out
+    at out
     × (m .listing ≡ false)
 
 abbrev μ-loop : tie.MeasureT-loop
-μ-loop block tops₀ ends₀ blocks₀ adjustments₀ second-tops₀ second-ends₀ second-blocks₀ second-adjustments₀ put out₀ m₀ put₀ tops ends blocks adjustments second-tops second-ends second-blocks second-adjustments out m put' =
+μ-loop block tops₀ ends₀ blocks₀ adjustments₀ second-tops₀ second-ends₀ second-blocks₀ second-adjustments₀ put out₀ m₀ at₀ tops ends blocks adjustments second-tops second-ends second-blocks second-adjustments out m at =
     length block - m .from
 
 loop-holds : tie.Need-loop-holds Inv-loop μ-loop
@@ -55,32 +55,34 @@ part-step-end c = let inv = c .before .before .before .before .loop .inv in omeg
 step-requires : tie.Need-step-requires Inv-loop μ-loop
 step-requires c κs = (omega arith, c .before .before .before .before .before .before .before .before .before .before .before .before .before .before .loop .inv .0 .sane .right)
 
+loop-again : tie.Need-loop-again Inv-loop μ-loop
+loop-again c =
+    let cut = c .before .before .before .before .before .before .before .before .before .before .before .before .before .before in
+    let inv = cut .before .before .before .loop .inv in (
+      went-then (inv .0)
+          (line-went _ _ _ _ (inv .1) (inv .0 .within) (cut .before .feed-at .ensures) (cut .before .before .before .loop .at) _ _ _ _ _ _ _
+          (cut .if1 .left) refl (inv .0 .sane) (omega arith) (c .before .before .step .ensures) _ _ (omega arith) (omega arith) (omega arith)),
+      c .if2 .left,
+    )
+
+returns-3 : tie.Need-returns-3 Inv-loop μ-loop
+returns-3 c =
+    let cut = c .before .before .before .before .before .before .before .before .before .before .before .before .before .before in
+    let inv = cut .before .before .before .loop .inv in
+    answers-more
+    (went-then (inv .0)
+    (line-went _ _ _ _ (inv .1) (inv .0 .within) (cut .before .feed-at .ensures) (cut .before .before .before .loop .at) _ _ _ _ _ _ _
+    (cut .if1 .left) refl (inv .0 .sane) (omega arith) (c .before .before .step .ensures) _ _ (omega arith) (omega arith) (omega arith)))
+    (omega (arith, inv .0 .onward, cut .before .feed-at .ensures))
+
 loop-less : tie.Need-loop-less Inv-loop μ-loop
 loop-less c =
     let cut = c .before .before .before .before .before .before .before .before .before .before .before .before .before .before in
     let inv = cut .before .before .before .loop .inv in
     omega (arith, cut .before .feed-at .ensures, cut .if1 .left, end-within _ _ _ (inv .0 .within) (cut .before .feed-at .ensures))
 
-loop-again : tie.Need-loop-again Inv-loop μ-loop
-loop-again c =
-    let cut = c .before .before .before .before .before .before .before .before .before .before .before .before .before .before in
-    let inv = cut .before .before .before .loop .inv in
-    let line =
-    line-went _ _ _ _ (inv .1) (inv .0 .within) (cut .before .feed-at .ensures) _ _ _ _ _ _ _ (cut .if1 .left) refl (inv .0 .sane)
-    (omega arith) (c .before .before .step .ensures) in
-    (went-then (inv .0) line, c .if2 .left)
-
 returns-2 : tie.Need-returns-2 Inv-loop μ-loop
 returns-2 c = answers-more (c .before .loop .inv .0) (omega (arith, c .before .loop .inv .0 .onward, c .loop-test .left))
-
-returns-3 : tie.Need-returns-3 Inv-loop μ-loop
-returns-3 c =
-    let cut = c .before .before .before .before .before .before .before .before .before .before .before .before .before .before in
-    let inv = cut .before .before .before .loop .inv in
-    let line =
-    line-went _ _ _ _ (inv .1) (inv .0 .within) (cut .before .feed-at .ensures) _ _ _ _ _ _ _ (cut .if1 .left) refl (inv .0 .sane)
-    (omega arith) (c .before .before .step .ensures) in
-    answers-more (went-then (inv .0) line) (omega (arith, inv .0 .onward, line .onward))
 
 pub answer-spec : {M : Type 1} → statement M
 answer-spec =

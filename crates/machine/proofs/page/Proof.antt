@@ -1,5 +1,6 @@
 -- `machine::page` meets its contract. Assumes nothing.
 use native.Mathlib.Omega.{arith}
+use borrow.Author.Tests.{ltb-true, ltb-false}
 use Rattle.machine.proofs.Turning.{page-row, paged, page-none}
 use Rattle.machine.proofs.page.Statement.{statement}
 use Rattle.machine.proofs.page.Tie as tie
@@ -16,7 +17,10 @@ sub-left : tie.Need-sub-left
 sub-left c = page-row _ _ _ _ _ _ _ (c .before .before .before .before .before .before .before .before .before .before .before .before .before .before .if1 .taken) (c .before .before .before .before .before .before .before .before .before .before .before .before .before .before .before .before .pre) (c .before .before .before .list .ensures)
 
 returns : tie.Need-returns
-returns c = paged _ _ _ _ _ _ _ (c .before .before .before .before .before .before .before .before .before .before .before .before .before .before .if1 .taken) (c .before .before .before .before .before .before .before .before .before .before .before .before .before .before .before .before .pre) (c .before .before .before .list .ensures) (omega arith)
+returns c =
+    paged _ _ _ _ _ _ _ (c .before .before .before .before .before .before .before .before .before .before .before .before .before .before .if1 .taken) (c .before .before .before .before .before .before .before .before .before .before .before .before .before .before .before .before .pre)
+    (c .before .before .before .list .ensures) _ _
+    (omega arith) (λ e. omega (arith, ltb-true)) (λ e. omega (arith, ltb-false)) (omega arith)
 
 returns-2 : tie.Need-returns-2
 returns-2 c = page-none _ _ _ (c .if1 .left) (c .before .before .pre)

@@ -1,5 +1,6 @@
 -- `machine::turn` meets its contract: a page, the lines, and the unfinished line kept. Assumes nothing.
 use mathlib.Core.Path.{sym}
+use native.Mathlib.Omega.{arith}
 use lib.Seq.{length-take-le}
 use Rattle.machine.proofs.Turning.{page-turns, page-size, page-answers, lines-turns, lines-places, kept-turns}
 use borrow.Author.Needs.{needs}
@@ -49,7 +50,7 @@ returns-3 c =
     let page = c .before .before .before .before .before .before .before .before .before .before .before .before .before .before .before .before .before .before in
     let lines = c .before .before .before .before .before in
     kept-turns (page .before .before .before .before .before .before .before .before .before .before .before .before .before .pre) (page .before .page .ensures) (lines .before .answer .ensures) (lines .if2 .left)
-    _ _ (c .before .before .keep .ensures .0) (c .before .before .keep .ensures .1)
+    _ _ (c .before .before .keep .ensures .0) (c .before .before .keep .ensures .1) _ (omega arith)
 
 pub turn-spec : {M : Type 1} → statement M
 turn-spec =

@@ -30,8 +30,8 @@ returns c =
     let start = c .before .before .before .before .before .before .before .before .before .before in
     let block = start .args .block .now in
     let size = start .args .size in (
-      omega (arith, c .before .before .count .ensures .0 .0, c .before .rest4 .given),
       take-put size (length block - size) block (c .before .before .before .before .before .before .read .last .1 .0) (omega arith),
+      omega (arith, c .before .before .count .ensures .0 .0, c .before .rest4 .given),
     )
 
 pub read-spec : {M : Type 1} → statement M

@@ -39,7 +39,7 @@ receive-requires : tie.Need-receive-requires Inv-loop μ-loop
 receive-requires c κs =
     let inv = c .before .before .before .before .loop .inv in
     let read = c .before .read .ensures in
-    (rests-read (inv .1) (read .1), inv .0 .from, omega (arith, inv .1 .few), read .0)
+    (rests-read (inv .1) (read .0), inv .0 .from, omega (arith, inv .1 .few), read .1)
 
 work-requires : tie.Need-work-requires Inv-loop μ-loop
 work-requires c κs =

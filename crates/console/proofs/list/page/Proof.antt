@@ -1,4 +1,6 @@
 -- `console::list::page` meets its contract. Assumes nothing.
+use mathlib.Core.Path.{refl}
+use native.Mathlib.Omega.{arith}
 use Rattle.session.specs.Maps.{sizesOf}
 use Rattle.console.proofs.Rows.{moves-room, moves-listed}
 use borrow.Author.Needs.{needs}
@@ -25,7 +27,8 @@ unfolding sizesOf
 returns c =
     let pre = c .before .before .before .before .before .before .before .before .before .before .before .before .before .before .before .before .before .before .pre in
     let text = c .before .before .put-rows .ensures in
-    moves-listed _ _ _ _ _ _ (c .before .before .before .before .before .before .before .before .relocated .ensures) (pre .1) _ _ _ (pre .0 .1) (text .0) (text .1)
+    moves-listed _ _ _ _ _ _ (c .before .before .before .before .before .before .before .before .relocated .ensures) _ (pre .1) refl
+    _ _ _ _ _ (pre .0 .1) (text .0) (text .1) (omega arith) (omega arith)
 
 pub page-spec : {M : Type 1} → statement M
 page-spec = tie.close (tie.spec relocated-requires cast-put-rows put-rows-requires same-length same-length-2 returns)

@@ -1,6 +1,8 @@
 -- `console::step::reply` meets its contract: one return for each answer. Assumes nothing.
+use mathlib.Core.Path.{ap}
 use native.Mathlib.Nat.{add-zero}
 use Rattle.session.specs.Maps.{shown, isList}
+use Rattle.console.proofs.Serving.{told-reply}
 use borrow.Author.Needs.{needs}
 use Rattle.console.proofs.step.reply.Statement.{statement}
 use Rattle.console.proofs.step.reply.Tie as tie
@@ -40,7 +42,7 @@ unfolding shown isList
 returns c =
     let told = c .before .before .put-refused .ensures in
     let answer = c .before .before .before .before .before .answer .given .1 in
-    (rw (answer, told .0), rw answer (told .1))
+    told-reply (c .before .before .before .before .before .before .before .before .before .args .done) _ _ _ _ _ (ap shown answer) (ap isList answer) (told .0) (told .1)
 
 same-length-2 : tie.Need-same-length-2
 same-length-2 c = search needs
@@ -50,7 +52,7 @@ unfolding shown isList
 returns-2 c =
     let told = c .before .before .put-ok .ensures in
     let answer = c .before .before .before .before .before .answer2 .given .1 in
-    (rw (answer, told .0), rw answer (told .1))
+    told-reply (c .before .before .before .before .before .before .before .before .before .args .done) _ _ _ _ _ (ap shown answer) (ap isList answer) (told .0) (told .1)
 
 same-length-3 : tie.Need-same-length-3
 same-length-3 c = search needs
@@ -60,7 +62,7 @@ unfolding shown isList
 returns-3 c =
     let told = c .before .before .put-place .ensures in
     let answer = c .before .before .before .before .before .answer3 .given .1 in
-    (rw (answer, told .0), rw answer (told .1))
+    told-reply (c .before .before .before .before .before .before .before .before .before .args .done) _ _ _ _ _ (ap shown answer) (ap isList answer) (told .0) (told .1)
 
 same-length-4 : tie.Need-same-length-4
 same-length-4 c = search needs
@@ -70,7 +72,7 @@ unfolding shown isList
 returns-4 c =
     let told = c .before .before .put-bucket .ensures in
     let answer = c .before .before .before .before .before .answer4 .given .1 in
-    (rw (answer, told .0), rw answer (told .1))
+    told-reply (c .before .before .before .before .before .before .before .before .before .args .done) _ _ _ _ _ (ap shown answer) (ap isList answer) (told .0) (told .1)
 
 returns-5 : tie.Need-returns-5
 unfolding shown isList
