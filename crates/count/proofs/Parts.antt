@@ -5,12 +5,12 @@ use mathlib.Core.Logic.{⊎-elim}
 use mathlib.Core.List.{List, [], _∷_, _++_, append-nil}
 use native.Mathlib.Omega.{arith}
 use lib.Dec.{ltb}
-use lib.ListN.{length, getD}
+use lib.ListN.{length, getD, length-append}
 use borrow.Author.Tests.{eq-eqb, ne-eqb, lt-ltb, le-ltb}
 use Rattle.model.specs.Basics.{if_then_else_}
 use Rattle.model.specs.Table.{Shape, Interval, interval, Table, Arrays, table}
 use Rattle.model.specs.Sound.{Sound}
-use Rattle.model.specs.Expansion.{lastBlock, lengthened, parts, extended, planFor, drained}
+use Rattle.model.specs.Expansion.{lastBlock, lengthened, parts, extended, planFor, drained, movedAfter}
 use Rattle.model.specs.declared.plan.Action.the-variants.{Stay, Move, Split}
 use Rattle.model.specs.declared.plan.Plan.{Plan}
 use Rattle.model.specs.declared.table.Header.{Header}
@@ -18,7 +18,7 @@ use Rattle.model.proofs.Counts.{below-or}
 use Rattle.model.proofs.Tables.{lentInterval}
 use Rattle.model.proofs.Wells.{tops-length}
 use Rattle.model.proofs.Walks.{extended-none, walked}
-use Rattle.model.proofs.Steps.{ahead, end-within, end-last, walked-next, walked-last, walked-drained}
+use Rattle.model.proofs.Steps.{Walk, walk-start, walk-next, walk-end, ahead, end-within, end-last, walked-next, walked-last, walked-drained}
 use Rattle.count.specs.Made.{made, leftBehind}
 
 -- a list is `is` and then `behind`
@@ -125,3 +125,28 @@ module _ (h : Header) (a : Arrays) (s : Shape) where
               ++ toMake (i + 1) end (p .moved))
               count;
         }
+
+    -- n intervals are made of those before i, and the rest of them all is still to make
+    pub record Making (n i start w : ℕ) : Type 0 where
+      pub walk : Walk h a s i start w
+      pub whole : n + length (toMake i start w) ≡ length (drained t s)
+
+    pub making-start : Making 0 0 0 0
+    making-start = record { walk = walk-start h a s; whole = omega (arith, ap length make-all) }
+
+    -- one interval further, of which k are made
+    pub making-more
+        : (n i start w : ℕ) → Making n i start w → i < h .«interval_count» → (p : Plan) → p ≡ planFor t s start (lentInterval a i) w
+        → (k : ℕ) → k ≡ length (made p (lentInterval a i) (h .«block_count») (leftBehind h (s .buckets) i))
+        → Making (n + k) (i + 1) (getD (a .ends) i 0) (p .moved)
+    making-more n i start w m l p e k c =
+        record {
+          walk = walk-next h a s i start w l p e sound (m .walk);
+          whole = omega (arith, m .whole, simp length-append at (ap length (made-first i start w l p e .joined)));
+        }
+
+    pub making-end
+        : (n i start w : ℕ) → Making n i start w → h .«interval_count» ≤ i
+        → (n ≡ length (drained t s)) × (w ≡ movedAfter t s 0 (t .intervals) 0)
+    making-end n i start w m l =
+        (omega (arith, m .whole, ap length (make-none i start w l)), walk-end h a s i start w l (m .walk))

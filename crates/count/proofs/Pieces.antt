@@ -1,6 +1,7 @@
 -- What blocks gain, and the pieces of the blocks from j on. Assumes nothing.
 use Prim.Native.Nat.{ℕ, suc, _+_, _-_, _≤_, _<_}
 use mathlib.Core.Path.{_≡_, sym, _∙_, ap}
+use mathlib.Core.Bool.{Bool, false}
 use mathlib.Core.Logic.{⊎-elim}
 use mathlib.Core.List.{List, _∷_}
 use native.Mathlib.Omega.{arith}
@@ -8,15 +9,15 @@ use lib.ListN.{length, getD}
 use borrow.Author.Tests.{eq-eqb, ne-eqb}
 use Rattle.model.specs.Basics.{if_then_else_}
 use Rattle.model.specs.Limits.{maxBlocks}
-use Rattle.model.specs.Table.{Shape, interval, Table, Arrays, table}
+use Rattle.model.specs.Table.{Shape, interval, Table, Arrays, arrays, table, sizes}
 use Rattle.model.specs.Expansion.{newTops, has, dueAfter, gain, pieces}
 use Rattle.model.specs.declared.table.Header.{Header}
 use Rattle.model.proofs.Listed.{equal-or}
 use Rattle.model.proofs.Wells.{Well, sound-well}
 use Rattle.model.proofs.Growths.{Accepted, accepted, block-limits, none-falls}
 use Rattle.model.proofs.Filled.{lastOf, pieces-last, pieces-none, pieces-one}
-use Rattle.model.proofs.Steps.{pieces-length, has-most}
-use Rattle.count.specs.Given.{Fills}
+use Rattle.model.proofs.Steps.{pieces-length, has-most, last-lent}
+use Rattle.count.specs.Given.{Drains, Grows, Fills, Shares, NoneFalls}
 use Rattle.count.specs.Made.{pieceOf}
 
 module _ (t : Table) (s : Shape) (j : ℕ) where
@@ -97,3 +98,41 @@ module _ (h : Header) (a : Arrays) (s : Shape) (olds dues : List ℕ) (f : Fills
   pub had-below : (j at : ℕ) → j < maxBlocks → h .buckets ≤ at → getD olds j 0 ≤ at
   unfolding table
   had-below j at l b = omega (arith, f .before j l, has-most (table h a) s j)
+
+  -- no entry of the arrays is less after the growth
+  pub fills-rise : NoneFalls olds dues
+  fills-rise j l = omega (arith, gain-from j l)
+
+  -- what the pieces are made from
+  pub fills-shares : Shares (table h a) s (getD (a .blocks) (h .«interval_count» - 1) 0) olds dues
+  fills-shares = record { own = sym (last-lent h a (f .sound .someIntervals)); before = f .before; after = f .after }
+
+-- a growth in either case
+module _
+    {h : Header}
+    {ends blocks adjustments : List ℕ}
+    {buckets : ℕ}
+    {olds dues : List ℕ}
+    {falls : Bool}
+    {count : ℕ}
+    {tops : List ℕ}
+    {bins : ℕ}
+    (g : Grows h ends blocks adjustments buckets olds dues falls count tops bins)
+  where
+    pub grows-drains : Drains h ends blocks adjustments buckets dues tops bins
+    grows-drains = record { sound = g .sound; asked = g .asked; after = g .after }
+
+    pub grows-fills : falls ≡ false → Fills h (arrays tops ends blocks adjustments) (sizes buckets bins) olds dues
+    grows-fills e =
+        record { sound = g .sound; asked = g .asked; before = g .before; after = g .after; none = sym (g .falling) ∙ e }
+
+-- what a block gains in an interval of its own, from the arrays of dues
+module _ {t : Table} {s : Shape} {last : ℕ} {olds dues : List ℕ} (shares : Shares t s last olds dues) (j : ℕ) where
+  pub piece-last : j ≡ last → pieceOf t s j ≡ 0
+  piece-last e = piece-own t s j (e ∙ shares .own)
+
+  pub piece-gained : j < maxBlocks → (j ≡ last → ⊥) → pieceOf t s j ≡ getD dues j 0 - getD olds j 0
+  unfolding gain
+  piece-gained l n =
+      piece-other t s j (λ e. n (e ∙ sym (shares .own)))
+      ∙ omega (arith, shares .before j l, shares .after j l)

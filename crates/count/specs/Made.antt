@@ -6,7 +6,7 @@ use lib.Dec.{ltb, eqb}
 use lib.ListN.{length}
 use Rattle.model.specs.Basics.{if_then_else_}
 use Rattle.model.specs.Table.{Shape, Interval, Table, shape}
-use Rattle.model.specs.Expansion.{lastBlock, gain, parts, extended, expanded, moved as movedOf}
+use Rattle.model.specs.Expansion.{lastBlock, gain, parts, extended, drained, movedAfter, expanded, moved as movedOf}
 use Rattle.model.specs.Balance.{least as leastOf}
 use Rattle.model.specs.declared.plan.Plan.{Plan}
 use Rattle.model.specs.declared.table.Header.{Header}
@@ -24,6 +24,11 @@ leftBehind h buckets i = if ltb (i + 1) (h .«interval_count») then 0 else buck
 -- what block j gains in an interval of its own: the last interval's block gains in that one
 unfoldable pub pieceOf : Table → Shape → ℕ → ℕ
 pieceOf t s j = if eqb j (lastBlock (t .intervals)) then 0 else gain t s j
+
+-- the answer of the counting pass where some old block is due less
+pub record CountedDrained (t : Table) (s : Shape) (r : Growth) : Type 0 where
+  pub intervals : r .intervals ≡ length (drained t s)
+  pub moved : r .moved ≡ movedAfter t s 0 (t .intervals) 0
 
 -- the answer of the counting pass: the new table's intervals, and the counted moves, which are the number of old buckets whose
 -- bin differs and the formula with T

@@ -2,20 +2,15 @@
 use model::plan::Action;
 use model::plan::Plan;
 use model::table::Header;
-use plan::blocks_after;
 use plan::plan_at;
-use plan::some_fall;
 ghost use mathlib.Core.Path.{_≡_};
+ghost use mathlib.Core.List.{List};
 ghost use Prim.Native.Nat.{ℕ, _≤_, _<_};
 ghost use lib.ListN.{length};
-ghost use Rattle.model.specs.Lent.{LentSound, arraysNow, tableGiven, tableNow};
-ghost use Rattle.model.specs.Table.{Interval, sizes};
-ghost use Rattle.model.specs.Refusal.{first};
-ghost use Rattle.model.specs.Expansion.{newTops, pieces as piecesOf, drained, movedAfter};
-ghost use Rattle.model.specs.Calls.{growthTests};
-ghost use Rattle.plan.specs.Shares.{DuesBefore, DuesAfter};
-ghost use Rattle.count.specs.Given.{Drains, Fills};
-ghost use Rattle.count.specs.Made.{made, leftBehind, pieceOf, Counted};
+ghost use Rattle.model.specs.Table.{Shape, Interval, Table, sizes};
+ghost use Rattle.model.specs.Expansion.{pieces as piecesOf};
+ghost use Rattle.count.specs.Given.{Some, Drains, Grows, Shares, NoneFalls, tableWith};
+ghost use Rattle.count.specs.Made.{made, leftBehind, pieceOf, CountedDrained, Counted};
 
 // The intervals of a growth's table, and the buckets that the growth moves.
 pub struct Growth {
@@ -57,52 +52,23 @@ pub fn left_behind(h: Header, buckets: u32, i: usize) -> u32
 // Some old block is due less: one pass over the old intervals.
 fn count_drained(
     h: Header,
-    tops: &[u32],
     ends: &[u32],
     blocks: &[u32],
     adjustments: &[u32],
     buckets: u32,
-    bins: u32,
     dues: &[u32; 65],
 ) -> Growth
-    requires { ⌜ Drains h (arraysNow tops ends blocks adjustments) (sizes buckets bins) (now dues) ⌝ }
-    ensures intervals { λ r.
-        ⌜
-        r .intervals
-        ≡ length
-        (drained
-        (tableGiven h tops ends blocks adjustments)
-        (sizes buckets bins))
-        ⌝ }
-    ensures moved { λ r.
-        ⌜
-        r .moved
-        ≡ movedAfter
-        (tableGiven h tops ends blocks adjustments)
-        (sizes buckets bins)
-        0
-        (tableGiven h tops ends blocks adjustments .intervals)
-        0
-        ⌝ }
+    requires { ⌜ Some (Drains h (now ends) (now blocks) (now adjustments) buckets (now dues)) ⌝ }
+    ensures { λ r. ⌜ ((tops : List ℕ) (bins : ℕ)
+        → Drains h (now (ends .entry)) (now (blocks .entry)) (now (adjustments .entry)) buckets (now (dues .entry)) tops bins
+        → CountedDrained (tableWith h tops ends blocks adjustments) (sizes buckets bins) r) ⌝ }
 {
     let mut intervals: u32 = 0;
     let mut start: u32 = 0;
     let mut moved: u32 = 0;
     let mut i: usize = 0;
     while i < h.interval_count as usize {
-        let plan = plan_at(
-            h,
-            tops,
-            ends,
-            blocks,
-            adjustments,
-            buckets,
-            bins,
-            dues,
-            i,
-            start,
-            moved,
-        );
+        let plan = plan_at(ends, blocks, adjustments, dues, i, start, moved);
         intervals += part_count(plan, left_behind(h, buckets, i));
         start = ends[i];
         moved = plan.moved;
@@ -111,82 +77,28 @@ fn count_drained(
     Growth { intervals, moved }
 }
 
-// What block j gains in an interval of its own: nothing if it is the last interval's block, which gains in that interval.
-pub fn piece(
-    h: Header,
-    tops: &[u32],
-    ends: &[u32],
-    blocks: &[u32],
-    adjustments: &[u32],
-    buckets: u32,
-    bins: u32,
-    olds: &[u32; 65],
-    dues: &[u32; 65],
-    j: usize,
-) -> u32
-    requires { ⌜ Fills h (arraysNow tops ends blocks adjustments) (sizes buckets bins) (now olds) (now dues) ⌝ }
-    requires { ⌜ j < 65 ⌝ }
-    ensures { λ r.
-        ⌜
-        r
-        ≡ pieceOf
-        (tableGiven h tops ends blocks adjustments)
-        (sizes buckets bins)
-        j
-        ⌝ }
+// What block j gains in an interval of its own: nothing if it is `last`, the last interval's block, which gains in that interval.
+pub fn piece(last: u32, olds: &[u32; 65], dues: &[u32; 65], j: usize) -> u32
+    requires { ⌜ (j < 65) × NoneFalls (now olds) (now dues) ⌝ }
+    ensures { λ r. ⌜ ((t : Table) (s : Shape) → Shares t s last (now (olds .entry)) (now (dues .entry)) → r ≡ pieceOf t s j) ⌝ }
 {
-    if j == blocks[h.interval_count as usize - 1] as usize {
+    if j == last as usize {
         return 0;
     }
     dues[j] - olds[j]
 }
 
-// No old block is due less: one pass over the blocks.
-fn count_pieces(
-    h: Header,
-    tops: &[u32],
-    ends: &[u32],
-    blocks: &[u32],
-    adjustments: &[u32],
-    buckets: u32,
-    bins: u32,
-    olds: &[u32; 65],
-    dues: &[u32; 65],
-) -> u32
-    requires { ⌜ Fills h (arraysNow tops ends blocks adjustments) (sizes buckets bins) (now olds) (now dues) ⌝ }
-    ensures { λ r.
-        ⌜
-        (r ≤ 65)
-        × ((c : ℕ)
-        → r
-        ≡ length
-        (piecesOf
-        (tableGiven h tops ends blocks adjustments)
-        (sizes buckets bins)
-        c
-        0
-        (length
-        (newTops
-        (tableGiven h tops ends blocks adjustments)
-        (sizes buckets bins)))))
-        ⌝ }
+// No old block is due less: one pass over the blocks, of which there are `count` after the growth.
+fn count_pieces(last: u32, olds: &[u32; 65], dues: &[u32; 65], count: u32) -> u32
+    requires { ⌜ (count ≤ 65) × NoneFalls (now olds) (now dues) ⌝ }
+    ensures few { λ r. ⌜ r ≤ 65 ⌝ }
+    ensures counted { λ r. ⌜ ((t : Table) (s : Shape) (c : ℕ) → Shares t s last (now (olds .entry)) (now (dues .entry))
+        → r ≡ length (piecesOf t s c 0 count)) ⌝ }
 {
-    let count = blocks_after(h, tops, ends, blocks, adjustments, buckets, bins) as usize;
     let mut pieces: u32 = 0;
     let mut j: usize = 0;
-    while j < count {
-        let gained = piece(
-            h,
-            tops,
-            ends,
-            blocks,
-            adjustments,
-            buckets,
-            bins,
-            olds,
-            dues,
-            j,
-        );
+    while j < count as usize {
+        let gained = piece(last, olds, dues, j);
         j += 1;
         if gained != 0 {
             pieces += 1;
@@ -196,56 +108,31 @@ fn count_pieces(
 }
 
 // The counting pass: how many intervals the growth's table needs, and how many buckets it moves. `olds` and `dues` are what each
-// block has, and is due after the growth.
+// block has, and is due after the growth; `falls` says that some old block is due less, and `count` is the number of blocks after
+// it.
 pub fn measure(
     h: Header,
-    tops: &[u32],
     ends: &[u32],
     blocks: &[u32],
     adjustments: &[u32],
     buckets: u32,
-    bins: u32,
     olds: &[u32; 65],
     dues: &[u32; 65],
+    falls: bool,
+    count: u32,
 ) -> Growth
-    requires { ⌜ LentSound h tops ends blocks adjustments ⌝ }
-    requires { ⌜ first (growthTests (tableNow h tops ends blocks adjustments) (sizes buckets bins)) ≡ 0 ⌝ }
-    requires { ⌜ DuesBefore (tableNow h tops ends blocks adjustments) (now olds) ⌝ }
-    requires { ⌜ DuesAfter (tableNow h tops ends blocks adjustments) (sizes buckets bins) (now dues) ⌝ }
-    ensures { λ r.
-        ⌜
-        Counted
-        (tableGiven h tops ends blocks adjustments)
-        (sizes buckets bins)
-        r
-        ⌝ }
+    requires { ⌜ Some (Grows h (now ends) (now blocks) (now adjustments) buckets (now olds) (now dues) falls count) ⌝ }
+    ensures { λ r. ⌜ ((tops : List ℕ) (bins : ℕ)
+        → Grows h (now (ends .entry)) (now (blocks .entry)) (now (adjustments .entry))
+        buckets (now (olds .entry)) (now (dues .entry)) falls count tops bins
+        → Counted (tableWith h tops ends blocks adjustments) (sizes buckets bins) r) ⌝ }
 {
-    if some_fall(
-        h,
-        tops,
-        ends,
-        blocks,
-        adjustments,
-        buckets,
-        bins,
-        olds,
-        dues,
-    ) {
-        return count_drained(h, tops, ends, blocks, adjustments, buckets, bins, dues);
+    if falls {
+        return count_drained(h, ends, blocks, adjustments, buckets, dues);
     }
+    let last = blocks[h.interval_count as usize - 1];
     Growth {
-        intervals: h.interval_count
-            + count_pieces(
-                h,
-                tops,
-                ends,
-                blocks,
-                adjustments,
-                buckets,
-                bins,
-                olds,
-                dues,
-            ),
+        intervals: h.interval_count + count_pieces(last, olds, dues, count),
         moved: 0,
     }
 }

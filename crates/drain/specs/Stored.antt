@@ -4,7 +4,11 @@ use mathlib.Core.Path.{_≡_}
 use mathlib.Core.List.{List, map}
 use lib.ListN.{length}
 use lib.Seq.{sets}
-use Rattle.model.specs.Table.{Interval}
+use Rattle.model.specs.Table.{Interval, sizes}
+use Rattle.model.specs.Lent.{lent}
+use Rattle.model.specs.Expansion.{drained}
+use Rattle.model.specs.declared.table.Header.{Header}
+use Rattle.count.specs.Given.{Drains}
 
 -- each of the three interval arrays has room for n entries
 pub record Room (n : ℕ) (es bs cs : List ℕ) : Type 0 where
@@ -17,3 +21,16 @@ pub record Stored (o : ℕ) (is : List Interval) (es bs cs es′ bs′ cs′ : L
   pub ends : es′ ≡ sets es o (map (λ i. i .end) is)
   pub blocks : bs′ ≡ sets bs o (map (λ i. i .block) is)
   pub adjustments : cs′ ≡ sets cs o (map (λ i. i .adjustment) is)
+
+-- a growth by which some old block is due less, whose intervals have room in the arrays es, bs and cs
+pub record DrainsInto
+    (es bs cs : List ℕ)
+    (h : Header)
+    (ends blocks adjustments : List ℕ)
+    (buckets : ℕ)
+    (dues tops : List ℕ)
+    (bins : ℕ)
+    : Type 0
+  where
+    pub drains : Drains h ends blocks adjustments buckets dues tops bins
+    pub room : Room (length (drained (lent h tops ends blocks adjustments) (sizes buckets bins))) es bs cs

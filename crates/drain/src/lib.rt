@@ -5,16 +5,15 @@ use model::plan::Action;
 use model::plan::Plan;
 use model::table::Header;
 use plan::plan_at;
-ghost use mathlib.Core.List.{[], _∷_};
-ghost use Prim.Native.Nat.{_+_, _^_, _≤_, _<_};
+ghost use mathlib.Core.List.{List, [], _∷_};
+ghost use Prim.Native.Nat.{ℕ, _+_, _^_, _≤_, _<_};
 ghost use mathlib.Core.Path.{_≡_};
 ghost use lib.ListN.{length};
-ghost use Rattle.model.specs.Lent.{arraysNow, tableGiven, tableNow};
 ghost use Rattle.model.specs.Table.{interval, sizes};
 ghost use Rattle.model.specs.Expansion.{drained};
-ghost use Rattle.count.specs.Given.{Drains};
+ghost use Rattle.count.specs.Given.{Some, Drains, tableWith};
 ghost use Rattle.count.specs.Made.{made};
-ghost use Rattle.drain.specs.Stored.{Room, Stored};
+ghost use Rattle.drain.specs.Stored.{Room, Stored, DrainsInto};
 
 // Writes one interval at place o.
 pub fn write_interval(
@@ -146,50 +145,32 @@ fn write_parts(
 // Some old block is due less: one pass over the old intervals.
 pub fn write_drained(
     h: Header,
-    tops: &[u32],
     ends: &[u32],
     blocks: &[u32],
     adjustments: &[u32],
     buckets: u32,
-    bins: u32,
     dues: &[u32; 65],
     new_ends: &mut [u32],
     new_blocks: &mut [u32],
     new_adjustments: &mut [u32],
 )
-    requires { ⌜ Drains h (arraysNow tops ends blocks adjustments) (sizes buckets bins) (now dues) ⌝ }
     requires { ⌜
-        Room (length (drained (tableNow h tops ends blocks adjustments) (sizes buckets bins)))
-        (now «new_ends») (now «new_blocks») (now «new_adjustments»)
+        Some
+        (DrainsInto (now «new_ends») (now «new_blocks») (now «new_adjustments»)
+        h (now ends) (now blocks) (now adjustments) buckets (now dues))
         ⌝ }
-    ensures { λ _.
-        ⌜
-        Stored 0
-        (drained
-        (tableGiven h tops ends blocks adjustments)
-        (sizes buckets bins))
+    ensures { λ _. ⌜ ((tops : List ℕ) (bins : ℕ)
+        → Drains h (now (ends .entry)) (now (blocks .entry)) (now (adjustments .entry)) buckets (now (dues .entry)) tops bins
+        → Stored 0 (drained (tableWith h tops ends blocks adjustments) (sizes buckets bins))
         (now («new_ends» .entry)) (now («new_blocks» .entry)) (now («new_adjustments» .entry))
-        (now («new_ends» .exit)) (now («new_blocks» .exit)) (now («new_adjustments» .exit))
-        ⌝ }
+        (now («new_ends» .exit)) (now («new_blocks» .exit)) (now («new_adjustments» .exit))) ⌝ }
 {
     let mut start: u32 = 0;
     let mut moved: u32 = 0;
     let mut o: usize = 0;
     let mut i: usize = 0;
     while i < h.interval_count as usize {
-        let plan = plan_at(
-            h,
-            tops,
-            ends,
-            blocks,
-            adjustments,
-            buckets,
-            bins,
-            dues,
-            i,
-            start,
-            moved,
-        );
+        let plan = plan_at(ends, blocks, adjustments, dues, i, start, moved);
         let left = left_behind(h, buckets, i);
         let end = ends[i];
         o = write_parts(

@@ -1,22 +1,24 @@
 -- A growth by which no old block is due less: its intervals as they are written. Assumes nothing.
-use Prim.Native.Nat.{ℕ, _+_, _-_, _≤_, _<_}
+use Prim.Native.Nat.{ℕ, _+_, _-_, _^_, _≤_, _<_}
 use mathlib.Core.Path.{_≡_, refl, sym, _∙_, ap}
 use mathlib.Core.List.{List, [], _∷_, _++_, map, append-assoc}
 use native.Mathlib.Omega.{arith}
 use lib.ListN.{length, getD, take, length-append}
-use lib.Seq.{sets}
+use lib.Seq.{sets, length-take-le}
 use Rattle.model.specs.Basics.{from}
 use Rattle.model.specs.Limits.{maxBlocks}
-use Rattle.model.specs.Table.{Shape, Interval, interval, Arrays, table}
+use Rattle.model.specs.Table.{Shape, Interval, interval, Arrays, table, over}
 use Rattle.model.specs.Expansion.{newTops, lengthened, gain, lengthTo, pieces, filled}
 use Rattle.model.specs.declared.table.Header.{Header}
+use Rattle.model.proofs.Entries.{sets-over}
 use Rattle.model.proofs.Tables.{length-from, from-ext, from-getD, map-from, lentInterval}
 use Rattle.model.proofs.Filled.{lastOf}
 use Rattle.model.proofs.Steps.{last-lent, lengthened-lent, end-last, filled-within}
-use Rattle.count.specs.Given.{Fills}
-use Rattle.drain.specs.Stored.{Stored}
-use Rattle.count.proofs.Pieces.{fills-well, fills-asked, fills-up, gain-from}
+use Rattle.count.specs.Given.{Some, Fills}
+use Rattle.drain.specs.Stored.{Room, Stored}
+use Rattle.count.proofs.Pieces.{fills-well, fills-asked, fills-up, fills-rise, fills-shares, gain-from, blocks-few, had-below}
 use Rattle.drain.proofs.Stores.{stored-more}
+use Rattle.expansion.specs.Into.{PiecesInto}
 
 module _ (h : Header) (a : Arrays) (s : Shape) (olds dues : List ℕ) (f : Fills h a s olds dues) where
   abbrev last : ℕ
@@ -95,31 +97,67 @@ module _ (h : Header) (a : Arrays) (s : Shape) (olds dues : List ℕ) (f : Fills
       ∙ from-ext (λ i. g (lentInterval a i)) (λ i. getD xs i 0) 0 last (λ i l m. e i)
       ∙ from-getD xs 0 last (omega arith))
 
+  copied-stored
+      : (g : Interval → ℕ) (xs old out : List ℕ) → ((i : ℕ) → g (lentInterval a i) ≡ getD xs i 0) → h .«interval_count» ≤ length xs
+      → last ≤ length old → out ≡ over (take last xs) old → out ≡ sets old 0 (map g (from (lentInterval a) 0 last))
+  copied-stored g xs old out e long room copied =
+      copied
+      ∙ sym (sets-over (take last xs) old (omega (arith, length-take-le last xs (omega arith))))
+      ∙ ap (sets old 0) (column g xs e long)
+
   pub old-stored
-      : {es bs cs es′ bs′ cs′ : List ℕ}
-      → (es′ ≡ sets es 0 (take last (a .ends)))
-      × (bs′ ≡ sets bs 0 (take last (a .blocks)))
-      × (cs′ ≡ sets cs 0 (take last (a .adjustments)))
+      : {es bs cs es′ bs′ cs′ : List ℕ} → Room last es bs cs
+      → (es′ ≡ over (take last (a .ends)) es)
+      × (bs′ ≡ over (take last (a .blocks)) bs)
+      × (cs′ ≡ over (take last (a .adjustments)) cs)
       → Stored 0 (from (lentInterval a) 0 last) es bs cs es′ bs′ cs′
-  old-stored {es} {bs} {cs} copied =
+  old-stored r copied =
+      let sound = f .sound in
       record {
-        ends = copied .0 ∙ ap (sets es 0) (column (λ i. i .end) (a .ends) (λ i. refl) (f .sound .endsLong));
-        blocks = copied .1 ∙ ap (sets bs 0) (column (λ i. i .block) (a .blocks) (λ i. refl) (f .sound .blocksLong));
+        ends = copied-stored (λ i. i .end) (a .ends) _ _ (λ i. refl) (sound .endsLong) (r .ends) (copied .0);
+        blocks = copied-stored (λ i. i .block) (a .blocks) _ _ (λ i. refl) (sound .blocksLong) (r .blocks) (copied .1);
         adjustments =
-            copied .2 ∙ ap (sets cs 0) (column (λ i. i .adjustment) (a .adjustments) (λ i. refl) (f .sound .adjustmentsLong));
+            copied-stored (λ i. i .adjustment) (a .adjustments) _ _ (λ i. refl) (sound .adjustmentsLong) (r .adjustments) (copied .2);
+      }
+
+  -- the pieces of n blocks from bucket e on, and room for them
+  pub pieces-into
+      : {es bs cs : List ℕ} (e n : ℕ) → e ≡ lengthTo (table h a) s → n ≡ length (newTops (table h a) s) → s .buckets < 2 ^ 32
+      → Room (h .«interval_count» + length (pieces (table h a) s e 0 n)) es bs cs
+      → Some (PiecesInto es bs cs block olds dues n e (h .«interval_count»))
+  unfolding table
+  pieces-into e n q c fits room =
+      record {
+        one = table h a;
+        other = s;
+        holds = record {
+          shares = fills-shares h a s olds dues f;
+          rise = fills-rise h a s olds dues f;
+          few = blocks-few h a s olds dues f n c;
+          had = λ j l. had-below h a s olds dues f j e l (omega arith);
+          fits = λ done i behind k.
+              omega (
+                arith,
+                piece-most done i behind
+                    (k
+                    ∙ ap (λ m. pieces (table h a) s m 0 n) q
+                    ∙ ap (pieces (table h a) s (lengthTo (table h a) s) 0) c),
+              );
+          room = room;
+        };
       }
 
   -- so what is stored one after the other are the filled intervals
   pub filled-stored
-      : {es bs cs es′ bs′ cs′ es″ bs″ cs″ es‴ bs‴ cs‴ : List ℕ} (e : ℕ) → e ≡ lengthTo (table h a) s
-      → Stored 0 (from (lentInterval a) 0 last) es bs cs es′ bs′ cs′
+      : {es bs cs es′ bs′ cs′ es″ bs″ cs″ es‴ bs‴ cs‴ : List ℕ} (e n : ℕ) → e ≡ lengthTo (table h a) s
+      → n ≡ length (newTops (table h a) s) → Stored 0 (from (lentInterval a) 0 last) es bs cs es′ bs′ cs′
       → Stored last (interval e block (getD (a .adjustments) last 0) ∷ []) es′ bs′ cs′ es″ bs″ cs″
-      → Stored (h .«interval_count») (pieces (table h a) s e 0 (length (newTops (table h a) s))) es″ bs″ cs″ es‴ bs‴ cs‴
+      → Stored (h .«interval_count») (pieces (table h a) s e 0 n) es″ bs″ cs″ es‴ bs‴ cs‴
       → Stored 0 (filled (table h a) s) es bs cs es‴ bs‴ cs‴
-  filled-stored e q x y w =
+  filled-stored e n q c x y w =
       let some = f .sound .someIntervals in
       let olds = length-from (lentInterval a) 0 last in
-      rw (filled-lent e q)
+      rw (filled-lent e q, sym c)
       (stored-more (h .«interval_count»)
       (omega (arith, length-append (from (lentInterval a) 0 last) (interval e block (getD (a .adjustments) last 0) ∷ [])))
       (stored-more last (omega arith) x y)

@@ -3,91 +3,50 @@ use count::piece;
 use drain::write_drained;
 use drain::write_interval;
 use model::table::Header;
-use plan::blocks_after;
-use plan::some_fall;
-use table::bin_count;
+use table::copy;
 ghost use mathlib.Core.Bool.{false};
+ghost use mathlib.Core.List.{List};
 ghost use mathlib.Core.Path.{_≡_};
-ghost use Prim.Native.Nat.{_+_, _≤_, _<_};
-ghost use lib.ListN.{length};
-ghost use Rattle.model.specs.Lent.{LentSound, given, left, arraysNow, tableGiven, tableNow};
+ghost use Prim.Native.Nat.{ℕ, _≤_};
+ghost use lib.ListN.{length, take};
+ghost use Rattle.model.specs.Lent.{given, left, arraysNow, tableGiven, tableNow};
 ghost use Rattle.model.specs.Limits.{maxBlocks, maxIntervals};
-ghost use Rattle.model.specs.Table.{over, written, sizes};
-ghost use Rattle.model.specs.Refusal.{first, roomShort};
-ghost use Rattle.model.specs.Expansion.{newTops, lengthTo, pieces as piecesOf, filled, expanded};
-ghost use Rattle.model.specs.Calls.{growthTests};
-ghost use Rattle.plan.specs.Shares.{DuesBefore, DuesAfter};
-ghost use Rattle.count.specs.Given.{Fills};
+ghost use Rattle.model.specs.Table.{Shape, Table, arrays, over, written, sizes};
+ghost use Rattle.model.specs.Refusal.{roomShort};
+ghost use Rattle.model.specs.Expansion.{newTops, pieces as piecesOf, filled, expanded};
+ghost use Rattle.count.specs.Given.{Some, Grows, Fills, Shares, tableWith};
 ghost use Rattle.drain.specs.Stored.{Room, Stored};
 ghost use Rattle.expansion.specs.Copied.{Copied};
+ghost use Rattle.expansion.specs.Into.{PiecesInto, FillsInto, GrowsInto};
 
-// Copies the first `count` entries of an array over those of another.
-fn copy(from: &[u32], count: usize, to: &mut [u32])
-    requires { ⌜ (count ≤ length (now from)) × (count ≤ length (now to)) ⌝ }
-    ensures { λ _. ⌜ Copied count from to ⌝ }
-{
-    let mut i: usize = 0;
-    while i < count {
-        to[i] = from[i];
-        i += 1;
-    }
-}
-
-// No old block is due less: one pass over the blocks, whose pieces begin at bucket `start` and go behind the old intervals.
+// No old block is due less: one pass over the `count` blocks, whose pieces begin at bucket `start` and go to the places from
+// `place` on. `last` is the last old interval's block, which has none.
 fn write_pieces(
-    h: Header,
-    tops: &[u32],
-    ends: &[u32],
-    blocks: &[u32],
-    adjustments: &[u32],
-    buckets: u32,
-    bins: u32,
+    last: u32,
     olds: &[u32; 65],
     dues: &[u32; 65],
+    count: u32,
     start: u32,
+    place: usize,
     new_ends: &mut [u32],
     new_blocks: &mut [u32],
     new_adjustments: &mut [u32],
 )
-    requires { ⌜ Fills h (arraysNow tops ends blocks adjustments) (sizes buckets bins) (now olds) (now dues) ⌝ }
-    requires { ⌜ start ≡ lengthTo (tableNow h tops ends blocks adjustments) (sizes buckets bins) ⌝ }
     requires { ⌜
-        Room (h .«interval_count» + length (piecesOf (tableNow h tops ends blocks adjustments) (sizes buckets bins) start 0 (length (newTops (tableNow h tops ends blocks adjustments) (sizes buckets bins)))))
-        (now «new_ends») (now «new_blocks») (now «new_adjustments»)
+        Some
+        (PiecesInto (now «new_ends») (now «new_blocks») (now «new_adjustments»)
+        last (now olds) (now dues) count start place)
         ⌝ }
-    ensures { λ _.
-        ⌜
-        Stored (h .«interval_count»)
-        (piecesOf
-        (tableGiven h tops ends blocks adjustments)
-        (sizes buckets bins)
-        start
-        0
-        (length
-        (newTops
-        (tableGiven h tops ends blocks adjustments)
-        (sizes buckets bins))))
+    ensures { λ _. ⌜ ((t : Table) (s : Shape) → Shares t s last (now (olds .entry)) (now (dues .entry))
+        → Stored place (piecesOf t s start 0 count)
         (now («new_ends» .entry)) (now («new_blocks» .entry)) (now («new_adjustments» .entry))
-        (now («new_ends» .exit)) (now («new_blocks» .exit)) (now («new_adjustments» .exit))
-        ⌝ }
+        (now («new_ends» .exit)) (now («new_blocks» .exit)) (now («new_adjustments» .exit))) ⌝ }
 {
-    let count = blocks_after(h, tops, ends, blocks, adjustments, buckets, bins) as usize;
     let mut at = start;
-    let mut o = h.interval_count as usize;
+    let mut o = place;
     let mut j: usize = 0;
-    while j < count {
-        let gained = piece(
-            h,
-            tops,
-            ends,
-            blocks,
-            adjustments,
-            buckets,
-            bins,
-            olds,
-            dues,
-            j,
-        );
+    while j < count as usize {
+        let gained = piece(last, olds, dues, j);
         let block = j;
         j += 1;
         if gained != 0 {
@@ -117,6 +76,7 @@ fn copy_intervals(
     new_blocks: &mut [u32],
     new_adjustments: &mut [u32],
 )
+    requires { ⌜ count ≤ maxIntervals ⌝ }
     requires { ⌜ Room count (now ends) (now blocks) (now adjustments) ⌝ }
     requires { ⌜ Room count (now «new_ends») (now «new_blocks») (now «new_adjustments») ⌝ }
     ensures { λ _.
@@ -127,35 +87,32 @@ fn copy_intervals(
     copy(adjustments, count, new_adjustments);
 }
 
-// No old block is due less: the old intervals, the last one lengthened by what its block gains, and the other blocks' pieces.
+// No old block is due less: the old intervals, the last one lengthened by what its block gains, and the pieces of the other
+// blocks, of which there are `count` after the growth.
 fn write_filled(
     h: Header,
-    tops: &[u32],
     ends: &[u32],
     blocks: &[u32],
     adjustments: &[u32],
-    buckets: u32,
-    bins: u32,
     olds: &[u32; 65],
     dues: &[u32; 65],
+    count: u32,
     new_ends: &mut [u32],
     new_blocks: &mut [u32],
     new_adjustments: &mut [u32],
 )
-    requires { ⌜ Fills h (arraysNow tops ends blocks adjustments) (sizes buckets bins) (now olds) (now dues) ⌝ }
     requires { ⌜
-        Room (length (filled (tableNow h tops ends blocks adjustments) (sizes buckets bins)))
-        (now «new_ends») (now «new_blocks») (now «new_adjustments»)
+        Some
+        (FillsInto (now «new_ends») (now «new_blocks») (now «new_adjustments»)
+        h (now ends) (now blocks) (now adjustments) (now olds) (now dues) count)
         ⌝ }
-    ensures { λ _.
-        ⌜
-        Stored 0
-        (filled
-        (tableGiven h tops ends blocks adjustments)
-        (sizes buckets bins))
+    ensures { λ _. ⌜ ((tops : List ℕ) (s : Shape)
+        → Fills h (arrays tops (now (ends .entry)) (now (blocks .entry)) (now (adjustments .entry))) s
+        (now (olds .entry)) (now (dues .entry))
+        → count ≡ length (newTops (tableWith h tops ends blocks adjustments) s)
+        → Stored 0 (filled (tableWith h tops ends blocks adjustments) s)
         (now («new_ends» .entry)) (now («new_blocks» .entry)) (now («new_adjustments» .entry))
-        (now («new_ends» .exit)) (now («new_blocks» .exit)) (now («new_adjustments» .exit))
-        ⌝ }
+        (now («new_ends» .exit)) (now («new_blocks» .exit)) (now («new_adjustments» .exit))) ⌝ }
 {
     let last = h.interval_count as usize - 1;
     let block = blocks[last];
@@ -179,107 +136,64 @@ fn write_filled(
         new_adjustments,
     );
     write_pieces(
-        h,
-        tops,
-        ends,
-        blocks,
-        adjustments,
-        buckets,
-        bins,
+        block,
         olds,
         dues,
+        count,
         end,
+        h.interval_count as usize,
         new_ends,
         new_blocks,
         new_adjustments,
     );
 }
 
-// The new tops: the old ones, and the new block's if there are more bins.
-fn write_tops(
-    h: Header,
-    tops: &[u32],
-    ends: &[u32],
-    blocks: &[u32],
-    adjustments: &[u32],
-    buckets: u32,
-    bins: u32,
-    new_tops: &mut [u32],
-)
-    requires { ⌜ LentSound h tops ends blocks adjustments ⌝ }
-    requires { ⌜ first (growthTests (tableNow h tops ends blocks adjustments) (sizes buckets bins)) ≡ 0 ⌝ }
-    requires { ⌜ maxBlocks ≤ length (now «new_tops») ⌝ }
-    ensures { λ _.
-        ⌜
-        now («new_tops» .exit)
-        ≡ over
-        (newTops
-        (tableGiven h tops ends blocks adjustments)
-        (sizes buckets bins))
-        (now («new_tops» .entry))
-        ⌝ }
+// The new tops: the `old` ones, and the new block's if there are more blocks after the growth.
+fn write_tops(tops: &[u32], old: u32, count: u32, bins: u32, new_tops: &mut [u32])
+    requires { ⌜ (old ≤ length (now tops)) × (old ≤ maxBlocks) × (count ≤ maxBlocks) × (maxBlocks ≤ length (now «new_tops»)) ⌝ }
+    ensures { λ _. ⌜ ((t : Table) (s : Shape) → t .tops ≡ take old (now (tops .entry)) → s .bins ≡ bins
+        → count ≡ length (newTops t s) → now («new_tops» .exit) ≡ over (newTops t s) (now («new_tops» .entry))) ⌝ }
 {
-    let count = h.block_count as usize;
-    let old = bin_count(h, tops, ends, blocks, adjustments);
-    copy(tops, count, new_tops);
-    if old < bins {
-        new_tops[count] = bins;
+    copy(tops, old as usize, new_tops);
+    if old < count {
+        new_tops[old as usize] = bins;
     }
 }
 
-// The new intervals, by the case.
+// The new intervals, by the case: `falls` says that some old block is due less.
 fn write_intervals(
     h: Header,
-    tops: &[u32],
     ends: &[u32],
     blocks: &[u32],
     adjustments: &[u32],
     buckets: u32,
-    bins: u32,
     olds: &[u32; 65],
     dues: &[u32; 65],
+    falls: bool,
+    count: u32,
     new_ends: &mut [u32],
     new_blocks: &mut [u32],
     new_adjustments: &mut [u32],
 )
-    requires { ⌜ LentSound h tops ends blocks adjustments ⌝ }
-    requires { ⌜ first (growthTests (tableNow h tops ends blocks adjustments) (sizes buckets bins)) ≡ 0 ⌝ }
-    requires { ⌜ DuesBefore (tableNow h tops ends blocks adjustments) (now olds) ⌝ }
-    requires { ⌜ DuesAfter (tableNow h tops ends blocks adjustments) (sizes buckets bins) (now dues) ⌝ }
     requires { ⌜
-        Room (length (expanded (tableNow h tops ends blocks adjustments) (sizes buckets bins) .intervals))
-        (now «new_ends») (now «new_blocks») (now «new_adjustments»)
+        Some
+        (GrowsInto (now «new_ends») (now «new_blocks») (now «new_adjustments»)
+        h (now ends) (now blocks) (now adjustments) buckets (now olds) (now dues) falls count)
         ⌝ }
-    ensures { λ _.
-        ⌜
-        Stored 0
-        (expanded
-        (tableGiven h tops ends blocks adjustments)
-        (sizes buckets bins)
-        .intervals)
+    ensures { λ _. ⌜ ((tops : List ℕ) (bins : ℕ)
+        → Grows h (now (ends .entry)) (now (blocks .entry)) (now (adjustments .entry))
+        buckets (now (olds .entry)) (now (dues .entry)) falls count tops bins
+        → Stored 0 (expanded (tableWith h tops ends blocks adjustments) (sizes buckets bins) .intervals)
         (now («new_ends» .entry)) (now («new_blocks» .entry)) (now («new_adjustments» .entry))
-        (now («new_ends» .exit)) (now («new_blocks» .exit)) (now («new_adjustments» .exit))
-        ⌝ }
+        (now («new_ends» .exit)) (now («new_blocks» .exit)) (now («new_adjustments» .exit))) ⌝ }
 {
-    if some_fall(
-        h,
-        tops,
-        ends,
-        blocks,
-        adjustments,
-        buckets,
-        bins,
-        olds,
-        dues,
-    ) {
+    if falls {
         write_drained(
             h,
-            tops,
             ends,
             blocks,
             adjustments,
             buckets,
-            bins,
             dues,
             new_ends,
             new_blocks,
@@ -289,21 +203,20 @@ fn write_intervals(
     }
     write_filled(
         h,
-        tops,
         ends,
         blocks,
         adjustments,
-        buckets,
-        bins,
         olds,
         dues,
+        count,
         new_ends,
         new_blocks,
         new_adjustments,
     );
 }
 
-// The growth's table, into arrays with room for it. `olds` and `dues` are what each block has, and is due after the growth.
+// The growth's table, into arrays with room for it. `olds` and `dues` are what each block has, and is due after the growth;
+// `falls` says that some old block is due less, and `count` is the number of blocks after it.
 pub fn write_expanded(
     h: Header,
     tops: &[u32],
@@ -314,15 +227,14 @@ pub fn write_expanded(
     bins: u32,
     olds: &[u32; 65],
     dues: &[u32; 65],
+    falls: bool,
+    count: u32,
     new_tops: &mut [u32],
     new_ends: &mut [u32],
     new_blocks: &mut [u32],
     new_adjustments: &mut [u32],
 )
-    requires { ⌜ LentSound h tops ends blocks adjustments ⌝ }
-    requires { ⌜ first (growthTests (tableNow h tops ends blocks adjustments) (sizes buckets bins)) ≡ 0 ⌝ }
-    requires { ⌜ DuesBefore (tableNow h tops ends blocks adjustments) (now olds) ⌝ }
-    requires { ⌜ DuesAfter (tableNow h tops ends blocks adjustments) (sizes buckets bins) (now dues) ⌝ }
+    requires { ⌜ Grows h (now ends) (now blocks) (now adjustments) buckets (now olds) (now dues) falls count (now tops) bins ⌝ }
     requires { ⌜ roomShort (arraysNow «new_tops» «new_ends» «new_blocks» «new_adjustments») ≡ false ⌝ }
     requires { ⌜ length (expanded (tableNow h tops ends blocks adjustments) (sizes buckets bins) .intervals) ≤ maxIntervals ⌝ }
     ensures { λ _.
@@ -335,17 +247,17 @@ pub fn write_expanded(
         (given «new_tops» «new_ends» «new_blocks» «new_adjustments»)
         ⌝ }
 {
-    write_tops(h, tops, ends, blocks, adjustments, buckets, bins, new_tops);
+    write_tops(tops, h.block_count, count, bins, new_tops);
     write_intervals(
         h,
-        tops,
         ends,
         blocks,
         adjustments,
         buckets,
-        bins,
         olds,
         dues,
+        falls,
+        count,
         new_ends,
         new_blocks,
         new_adjustments,

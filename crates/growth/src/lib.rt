@@ -4,11 +4,86 @@ ghost use mathlib.Core.Path.{_≡_};
 ghost use Rattle.model.specs.Lent.{LentSound, given, left, arraysNow, tableGiven};
 ghost use Rattle.model.specs.Table.{sizes};
 ghost use Rattle.model.specs.Refusal.{roomShort};
+ghost use Rattle.count.specs.Given.{Grows};
 ghost use Rattle.growth.specs.Replies.{GrowReply, MovesReply};
 use model::reply::RelocationsReply;
 use model::reply::TableReply;
 use model::table::Header;
 use sizes::refused_table;
+
+// A growth that rules 1 to 5 accept. `olds` and `dues` are what each block has, and is due after it; `falls` says that some old
+// block is due less, and `block_count` is the number of blocks after it.
+fn accepted(
+    header: Header,
+    tops: &[u32],
+    ends: &[u32],
+    blocks: &[u32],
+    adjustments: &[u32],
+    buckets: u32,
+    bins: u32,
+    olds: &[u32; 65],
+    dues: &[u32; 65],
+    falls: bool,
+    block_count: u32,
+    new_tops: &mut [u32],
+    new_ends: &mut [u32],
+    new_blocks: &mut [u32],
+    new_adjustments: &mut [u32],
+) -> TableReply
+    requires { ⌜
+        Grows header (now ends) (now blocks) (now adjustments) buckets (now olds) (now dues) falls «block_count» (now tops) bins
+        ⌝ }
+    requires { ⌜ roomShort (arraysNow «new_tops» «new_ends» «new_blocks» «new_adjustments») ≡ false ⌝ }
+    ensures { λ r.
+        ⌜
+        GrowReply (tableGiven header tops ends blocks adjustments)
+        (sizes buckets bins)
+        (given «new_tops» «new_ends» «new_blocks» «new_adjustments»)
+        (left «new_tops» «new_ends» «new_blocks» «new_adjustments»)
+        r
+        ⌝ }
+{
+    let growth = count::measure(
+        header,
+        ends,
+        blocks,
+        adjustments,
+        buckets,
+        olds,
+        dues,
+        falls,
+        block_count,
+    );
+    if 2_081 < growth.intervals {
+        return refused_table(8);
+    }
+    expansion::write_expanded(
+        header,
+        tops,
+        ends,
+        blocks,
+        adjustments,
+        buckets,
+        bins,
+        olds,
+        dues,
+        falls,
+        block_count,
+        new_tops,
+        new_ends,
+        new_blocks,
+        new_adjustments,
+    );
+    TableReply {
+        refusal: 0,
+        moved: growth.moved,
+        header: Header {
+            buckets,
+            block_count,
+            interval_count: growth.intervals,
+        },
+    }
+}
 
 // A growth into arrays with room for any table.
 pub fn grown(
@@ -52,7 +127,9 @@ pub fn grown(
         bins,
         &mut dues,
     );
-    let growth = count::measure(
+    let falls = plan::some_fall(header.block_count, &olds, &dues);
+    let block_count = plan::blocks_after(header, tops, ends, blocks, adjustments, bins);
+    accepted(
         header,
         tops,
         ends,
@@ -62,35 +139,13 @@ pub fn grown(
         bins,
         &olds,
         &dues,
-    );
-    if 2_081 < growth.intervals {
-        return refused_table(8);
-    }
-    let block_count = plan::blocks_after(header, tops, ends, blocks, adjustments, buckets, bins);
-    expansion::write_expanded(
-        header,
-        tops,
-        ends,
-        blocks,
-        adjustments,
-        buckets,
-        bins,
-        &olds,
-        &dues,
+        falls,
+        block_count,
         new_tops,
         new_ends,
         new_blocks,
         new_adjustments,
-    );
-    TableReply {
-        refusal: 0,
-        moved: growth.moved,
-        header: Header {
-            buckets,
-            block_count,
-            interval_count: growth.intervals,
-        },
-    }
+    )
 }
 
 // A page of the move list.
@@ -145,6 +200,7 @@ pub fn relocated(
         buckets,
         bins,
         first,
+        total,
         rows,
     );
     RelocationsReply {

@@ -23,3 +23,13 @@ DuesAfter t s dues = (j : ℕ) → j < maxBlocks → getD dues j 0 ≡ dueAfter 
 -- what each block has before it
 abbrev pub DuesBefore : Table → List ℕ → Type 0
 DuesBefore t dues = (j : ℕ) → j < maxBlocks → getD dues j 0 ≡ has t j
+
+-- interval i of three lent arrays, which starts at `start`, where w buckets have moved before it: what its plan needs
+pub record IntervalAt (ends blocks adjustments : List ℕ) (i start w : ℕ) : Type 0 where
+  pub endsLong : i < length ends
+  pub blocksLong : i < length blocks
+  pub adjustmentsLong : i < length adjustments
+  pub block : getD blocks i 0 < maxBlocks
+  pub later : start < getD ends i 0
+  pub adjusted : getD adjustments i 0 ≤ start
+  pub below : w ≤ start

@@ -3,14 +3,13 @@ ghost use Prim.Native.Nat.{ℕ, _<_, _≤_};
 ghost use mathlib.Core.Path.{_≡_};
 ghost use lib.ListN.{length, getD, take, replicate};
 ghost use Rattle.model.specs.Lent.{LentSound, tableGiven, tableNow};
-ghost use Rattle.model.specs.Basics.{before as entryBefore};
 ghost use Rattle.model.specs.Limits.{maxBlocks};
-ghost use Rattle.model.specs.Table.{interval, sizes};
+ghost use Rattle.model.specs.Table.{Shape, Table, interval, sizes};
 ghost use Rattle.model.specs.Due.{dueOfBlock};
 ghost use Rattle.model.specs.Refusal.{first};
-ghost use Rattle.model.specs.Expansion.{newTops, someFall, plan, planFor};
+ghost use Rattle.model.specs.Expansion.{newTops, someFall, plan};
 ghost use Rattle.model.specs.Calls.{growthTests};
-ghost use Rattle.plan.specs.Shares.{TopsWithin, DuesBefore, DuesAfter};
+ghost use Rattle.plan.specs.Shares.{TopsWithin, DuesBefore, DuesAfter, IntervalAt};
 use model::plan::Action;
 use model::plan::Plan;
 use model::table::Header;
@@ -68,18 +67,10 @@ pub fn blocks_after(
     ends: &[u32],
     blocks: &[u32],
     adjustments: &[u32],
-    buckets: u32,
     bins: u32,
 ) -> u32
     requires { ⌜ LentSound h tops ends blocks adjustments ⌝ }
-    ensures { λ r.
-        ⌜
-        r
-        ≡ length
-        (newTops
-        (tableGiven h tops ends blocks adjustments)
-        (sizes buckets bins))
-        ⌝ }
+    ensures { λ r. ⌜ ((s : Shape) → s .bins ≡ bins → r ≡ length (newTops (tableGiven h tops ends blocks adjustments) s)) ⌝ }
 {
     let old = bin_count(h, tops, ends, blocks, adjustments);
     if old < bins {
@@ -159,31 +150,14 @@ pub fn dues_after(
     }
 }
 
-// Whether some old block is due less than it has, from the dues before and after the growth.
-pub fn some_fall(
-    h: Header,
-    tops: &[u32],
-    ends: &[u32],
-    blocks: &[u32],
-    adjustments: &[u32],
-    buckets: u32,
-    bins: u32,
-    olds: &[u32; 65],
-    dues: &[u32; 65],
-) -> bool
-    requires { ⌜ LentSound h tops ends blocks adjustments ⌝ }
-    requires { ⌜ DuesBefore (tableNow h tops ends blocks adjustments) (now olds) ⌝ }
-    requires { ⌜ DuesAfter (tableNow h tops ends blocks adjustments) (sizes buckets bins) (now dues) ⌝ }
-    ensures { λ r.
-        ⌜
-        r
-        ≡ someFall
-        (tableGiven h tops ends blocks adjustments)
-        (sizes buckets bins)
-        ⌝ }
+// Whether some of the `count` old blocks is due less than it has, from the dues before and after the growth.
+pub fn some_fall(count: u32, olds: &[u32; 65], dues: &[u32; 65]) -> bool
+    requires { ⌜ count ≤ maxBlocks ⌝ }
+    ensures { λ r. ⌜ ((t : Table) (s : Shape) → length (t .tops) ≡ count → DuesBefore t (now (olds .entry))
+        → DuesAfter t s (now (dues .entry)) → r ≡ someFall t s) ⌝ }
 {
     let mut j: usize = 0;
-    while j < h.block_count as usize {
+    while j < count as usize {
         if dues[j] < olds[j] {
             return true;
         }
@@ -222,29 +196,23 @@ pub fn plan_interval(due: u32, start: u32, end: u32, adjustment: u32, moved: u32
     }
 }
 
-// The plan for old interval i, which starts at `start`, where `moved` buckets have moved before it.
+// The plan for old interval i, which starts at `start`, where `moved` buckets have moved before it. `dues` is what each block is
+// due.
 pub fn plan_at(
-    h: Header,
-    tops: &[u32],
     ends: &[u32],
     blocks: &[u32],
     adjustments: &[u32],
-    buckets: u32,
-    bins: u32,
     dues: &[u32; 65],
     i: usize,
     start: u32,
     moved: u32,
 ) -> Plan
-    requires { ⌜ LentSound h tops ends blocks adjustments ⌝ }
-    requires { ⌜ DuesAfter (tableNow h tops ends blocks adjustments) (sizes buckets bins) (now dues) ⌝ }
-    requires { ⌜ (i < h .«interval_count») × (start ≡ entryBefore (now ends) i) × (moved ≤ start) ⌝ }
+    requires { ⌜ IntervalAt (now ends) (now blocks) (now adjustments) i start moved ⌝ }
     ensures { λ r.
         ⌜
         r
-        ≡ planFor
-        (tableGiven h tops ends blocks adjustments)
-        (sizes buckets bins)
+        ≡ plan
+        (getD (now (dues .entry)) (getD (now (blocks .entry)) i 0) 0)
         start
         (interval (getD (now (ends .entry)) i 0) (getD (now (blocks .entry)) i 0) (getD (now (adjustments .entry)) i 0))
         moved

@@ -28,7 +28,7 @@ use Rattle.model.proofs.Growths.{accepted, some-more}
 use Rattle.model.proofs.Drained.{drainedBlock, plan-stay, plan-move, plan-split}
 use Rattle.model.proofs.Rows.{rows-least, rowsBelow, rows-more, rowsBefore, lentFirst, lentBins, Cut, end-within, rows-size, part-rows, part-row}
 use Rattle.model.proofs.Pages.{Fives, fives-from, fives-rows, page-past}
-use Rattle.relocations.specs.Spans.{placing, placedRow, partRows, paged, Part, PartsMove}
+use Rattle.relocations.specs.Spans.{placing, placedRow, partRows, paged, Part, PartsMove, ActionMoves}
 use Rattle.relocations.specs.declared.Placing.{Placing}
 use Rattle.relocations.proofs.Actions.{partsOf, rows-stay, rows-move, rows-split}
 use Rattle.relocations.proofs.Spans.{page-full, page-fits, paged-behind, five-numbers}
@@ -294,17 +294,16 @@ module _
           (l : i < h .«interval_count») (plan : Plan) (old : Placing) (n : ℕ)
           (e : plan ≡ planFor (table h a) s start (lentInterval a i) moved) (f : old ≡ lentPlacing a i) (g : n ≡ bins (table h a)) where
         -- what its rows ask
-        pub walking-parts
-            : (b c : ℕ) → b < c → PartsMove c old n (s .bins - n) moved start (partsOf (plan .action) (getD (a .ends) i 0) old b c)
+        pub walking-parts : ActionMoves (plan .action) start (getD (a .ends) i 0) old n (s .bins - n) moved
         unfolding planFor
         walking-parts = rw (e, f, g, v .starts, v .counted) (step-parts i l)
 
         -- and the next interval, once they are written
         pub walking-more
             : (rows′ : List ℕ)
-            → ((b c : ℕ) → b < c
+            → ((w : ℕ) → ActionMoves (plan .action) start (getD (a .ends) i 0) old n (s .bins - n) w → (b c : ℕ) → b < c
             → rows′
-            ≡ paged q moved
+            ≡ paged q w
             (partRows c old n (s .bins - n) start (partsOf (plan .action) (getD (a .ends) i 0) old b c))
             rows)
             → Walking h a s q rows₀ rows′ (i + 1) (getD (a .ends) i 0) (plan .moved)
@@ -316,7 +315,7 @@ module _
               counted = rw (e, v .starts, v .counted, add-one i) (step-moved i l);
               below = rw (e, v .starts, v .counted, step-moved i l) (rows-few i l (end i l) (le-refl _));
               filled =
-                  same (getD (a .blocks) i 0) (h .«block_count») (sound .blocksBelow i l)
+                  same moved walking-parts (getD (a .blocks) i 0) (h .«block_count») (sound .blocksBelow i l)
                   ∙ rw (e, f, g, v .filled, v .starts, v .counted)
                   (paged-behind q (below i l (before (a .ends) i)) (parted i l) rows₀
                   (fives-rows (table h a) (expanded (table h a) s) 0 (before (a .ends) i))

@@ -2,11 +2,17 @@
 use Prim.Native.Nat.{ℕ, _+_, _-_, _*_, _/_, _%_, _^_, _≤_, _<_}
 use mathlib.Core.List.{List, [], _∷_, _++_}
 use mathlib.Core.Path.{_≡_}
+use mathlib.Core.Bool.{true}
 use lib.Dec.{eqb}
 use lib.ListN.{length, take, drop}
 use Rattle.model.specs.Basics.{if_then_else_, from, joined}
-use Rattle.model.specs.Table.{Interval}
-use Rattle.model.specs.Relocations.{page}
+use Rattle.model.specs.Table.{Shape, Interval, interval, Table}
+use Rattle.model.specs.Refusal.{first}
+use Rattle.model.specs.Expansion.{parts, someFall, expanded}
+use Rattle.model.specs.Relocations.{rows, page}
+use Rattle.model.specs.Calls.{growthTests}
+use Rattle.model.specs.declared.plan.Action.{Action}
+use Rattle.plan.specs.Shares.{DuesAfter}
 use Rattle.relocations.specs.declared.Placing.{Placing}
 use Rattle.relocations.specs.declared.Slot.{Slot}
 
@@ -67,3 +73,18 @@ abbrev pub PartsMove : ℕ → Placing → ℕ → ℕ → ℕ → ℕ → List 
 PartsMove g old f d w start [] = Unit {0}
 PartsMove g old f d w start (i ∷ rest) =
     (i .block ≡ g → Part old (placing f d (i .adjustment)) start (i .end) w) × PartsMove g old f d w (i .end) rest
+
+-- of the parts that an action makes of an interval, whatever its block and the new one
+abbrev pub ActionMoves : Action → ℕ → ℕ → Placing → ℕ → ℕ → ℕ → Type 0
+ActionMoves a start end old f d w =
+    (block g : ℕ) → block < g → PartsMove g old f d w start (parts a (interval end block (old .adjustment)) g [])
+
+-- the rows of a growth of t to s
+abbrev pub movesOf : Table → Shape → List (List ℕ)
+movesOf t s = rows t (expanded t s)
+
+-- an accepted growth by which some old block is due less, with the dues after it
+pub record Moves (t : Table) (s : Shape) (dues : List ℕ) : Type 0 where
+  pub asked : first (growthTests t s) ≡ 0
+  pub falls : someFall t s ≡ true
+  pub after : DuesAfter t s dues

@@ -2,18 +2,16 @@
 ghost use Prim.Native.Nat.{ℕ, _+_, _-_, _*_, _^_, _<_, _≤_};
 ghost use mathlib.Core.Path.{_≡_};
 ghost use mathlib.Core.List.{[], _∷_};
-ghost use mathlib.Core.Bool.{true};
 ghost use lib.ListN.{length, getD};
 ghost use lib.Seq.{sets};
 ghost use Rattle.model.specs.Lent.{LentSound, tableGiven, tableNow};
 ghost use Rattle.model.specs.Basics.{from, joined, before as entryBefore};
 ghost use Rattle.model.specs.Table.{interval, over, sizes};
 ghost use Rattle.model.specs.Refusal.{first as firstOf};
-ghost use Rattle.model.specs.Expansion.{parts, expanded, someFall};
-ghost use Rattle.model.specs.Relocations.{rows as rowsOf, page};
+ghost use Rattle.model.specs.Expansion.{parts};
+ghost use Rattle.model.specs.Relocations.{page};
 ghost use Rattle.model.specs.Calls.{growthTests};
-ghost use Rattle.plan.specs.Shares.{DuesAfter};
-ghost use Rattle.relocations.specs.Spans.{placing, placedRow, withRows, partRows, paged, Places, Slotted, Steps, Part, PartsMove};
+ghost use Rattle.relocations.specs.Spans.{placing, placedRow, withRows, partRows, paged, movesOf, Places, Slotted, Steps, Part, ActionMoves, Moves};
 use model::plan::Action;
 use model::table::Header;
 use plan::dues_after;
@@ -158,8 +156,8 @@ fn write_part(old: Placing, new: Placing, bucket: u32, end: u32, first: u32, row
     write_span(old, new, start, start + free as u32, at, rows)
 }
 
-// The rows of an interval whose action is given, where `moved` rows come before them. They do not depend on the number of its
-// block, nor on that of the new one.
+// The rows of an interval whose action is given. They do not depend on the number of its block, nor on that of the new one. As
+// many rows come before them as the first of them has for its rank in the new block.
 fn write_action(
     action: Action,
     start: u32,
@@ -167,22 +165,15 @@ fn write_action(
     old: Placing,
     first_bin: u32,
     bins: u32,
-    moved: u32,
     first: u32,
     rows: &mut [u32],
 )
-    requires { ⌜
-        ((block g : ℕ) → block < g
-        → PartsMove g old «first_bin» bins moved start (parts action (interval end block (old .adjustment)) g []))
-        ⌝ }
-    ensures { λ _.
-        ⌜
-        ((block g : ℕ) → block < g
+    requires { ⌜ ((w : ℕ) × ActionMoves action start end old «first_bin» bins w) ⌝ }
+    ensures { λ _. ⌜ ((w : ℕ) → ActionMoves action start end old «first_bin» bins w → (block g : ℕ) → block < g
         → now (rows .exit)
-        ≡ paged first moved
+        ≡ paged first w
         (partRows g old «first_bin» bins start (parts action (interval end block (old .adjustment)) g []))
-        (now (rows .entry)))
-        ⌝ }
+        (now (rows .entry))) ⌝ }
 {
     match action {
         Action::Stay => {}
@@ -232,29 +223,18 @@ fn write_moved(
     ends: &[u32],
     blocks: &[u32],
     adjustments: &[u32],
-    buckets: u32,
     bins: u32,
     dues: &[u32; 65],
     first: u32,
     rows: &mut [u32],
 )
     requires { ⌜ LentSound h tops ends blocks adjustments ⌝ }
-    requires { ⌜ firstOf (growthTests (tableNow h tops ends blocks adjustments) (sizes buckets bins)) ≡ 0 ⌝ }
-    requires { ⌜ someFall (tableNow h tops ends blocks adjustments) (sizes buckets bins) ≡ true ⌝ }
-    requires { ⌜ DuesAfter (tableNow h tops ends blocks adjustments) (sizes buckets bins) (now dues) ⌝ }
-    ensures { λ _.
-        ⌜
-        now (rows .exit)
+    requires { ⌜ ((buckets : ℕ) × Moves (tableNow h tops ends blocks adjustments) (sizes buckets bins) (now dues)) ⌝ }
+    ensures { λ _. ⌜ ((buckets : ℕ) → Moves (tableGiven h tops ends blocks adjustments) (sizes buckets bins) (now (dues .entry))
+        → now (rows .exit)
         ≡ over
-        (joined
-        (page first (length (now (rows .entry)))
-        (rowsOf
-        (tableGiven h tops ends blocks adjustments)
-        (expanded
-        (tableGiven h tops ends blocks adjustments)
-        (sizes buckets bins)))))
-        (now (rows .entry))
-        ⌝ }
+        (joined (page first (length (now (rows .entry))) (movesOf (tableGiven h tops ends blocks adjustments) (sizes buckets bins))))
+        (now (rows .entry))) ⌝ }
 {
     let old_bins = bin_count(h, tops, ends, blocks, adjustments);
     let room = rows.len() / 5;
@@ -265,19 +245,7 @@ fn write_moved(
         if room <= excess(moved, first) as usize {
             return;
         }
-        let plan = plan_at(
-            h,
-            tops,
-            ends,
-            blocks,
-            adjustments,
-            buckets,
-            bins,
-            dues,
-            i,
-            start,
-            moved,
-        );
+        let plan = plan_at(ends, blocks, adjustments, dues, i, start, moved);
         let end = ends[i];
         let old = placing_of(tops, blocks[i] as usize, adjustments[i]);
         let action = plan.action;
@@ -288,7 +256,6 @@ fn write_moved(
             old,
             old_bins,
             bins - old_bins,
-            moved,
             first,
             rows,
         );
@@ -310,16 +277,7 @@ pub fn relocation_count(
 ) -> u32
     requires { ⌜ LentSound h tops ends blocks adjustments ⌝ }
     requires { ⌜ firstOf (growthTests (tableNow h tops ends blocks adjustments) (sizes buckets bins)) ≡ 0 ⌝ }
-    ensures { λ r.
-        ⌜
-        r
-        ≡ length
-        (rowsOf
-        (tableGiven h tops ends blocks adjustments)
-        (expanded
-        (tableGiven h tops ends blocks adjustments)
-        (sizes buckets bins)))
-        ⌝ }
+    ensures { λ r. ⌜ r ≡ length (movesOf (tableGiven h tops ends blocks adjustments) (sizes buckets bins)) ⌝ }
 {
     let old_bins = bin_count(h, tops, ends, blocks, adjustments);
     excess(
@@ -328,7 +286,7 @@ pub fn relocation_count(
     )
 }
 
-// The rows from order number `first` on, as many as remain or fit whole; how many were written.
+// The rows from order number `first` on, as many of the `total` as remain or fit whole; how many were written.
 pub fn write_relocations(
     h: Header,
     tops: &[u32],
@@ -338,62 +296,32 @@ pub fn write_relocations(
     buckets: u32,
     bins: u32,
     first: u32,
+    total: u32,
     rows: &mut [u32],
 ) -> u32
     requires { ⌜ LentSound h tops ends blocks adjustments ⌝ }
     requires { ⌜ firstOf (growthTests (tableNow h tops ends blocks adjustments) (sizes buckets bins)) ≡ 0 ⌝ }
-    requires { ⌜
-        first
-        ≤ length
-        (rowsOf
-        (tableNow h tops ends blocks adjustments)
-        (expanded
-        (tableNow h tops ends blocks adjustments)
-        (sizes buckets bins)))
-        ⌝ }
+    requires { ⌜ total ≡ length (movesOf (tableNow h tops ends blocks adjustments) (sizes buckets bins)) ⌝ }
+    requires { ⌜ first ≤ total ⌝ }
     ensures { λ r.
         ⌜
         r
-        ≡ length
-        (page first (length (now (rows .entry)))
-        (rowsOf
-        (tableGiven h tops ends blocks adjustments)
-        (expanded
-        (tableGiven h tops ends blocks adjustments)
-        (sizes buckets bins))))
+        ≡ length (page first (length (now (rows .entry))) (movesOf (tableGiven h tops ends blocks adjustments) (sizes buckets bins)))
         ⌝ }
     ensures { λ _.
         ⌜
         now (rows .exit)
         ≡ over
-        (joined
-        (page first (length (now (rows .entry)))
-        (rowsOf
-        (tableGiven h tops ends blocks adjustments)
-        (expanded
-        (tableGiven h tops ends blocks adjustments)
-        (sizes buckets bins)))))
+        (joined (page first (length (now (rows .entry))) (movesOf (tableGiven h tops ends blocks adjustments) (sizes buckets bins))))
         (now (rows .entry))
         ⌝ }
 {
-    let total = relocation_count(h, tops, ends, blocks, adjustments, buckets, bins);
     if first == total {
         return 0;
     }
     let mut dues = [0u32; 65];
     dues_after(h, tops, ends, blocks, adjustments, buckets, bins, &mut dues);
-    write_moved(
-        h,
-        tops,
-        ends,
-        blocks,
-        adjustments,
-        buckets,
-        bins,
-        &dues,
-        first,
-        rows,
-    );
+    write_moved(h, tops, ends, blocks, adjustments, bins, &dues, first, rows);
     let left = total - first;
     let room = rows.len() / 5;
     if left as usize <= room {

@@ -5,46 +5,29 @@ use mathlib.Core.Path.{_≡_, sym, _∙_, ap}
 use native.Mathlib.Nat.{sub-zero}
 use native.Mathlib.Omega.{arith}
 use lib.ListN.{length}
-use Rattle.model.specs.Table.{Shape, Table, sizes}
+use Rattle.model.specs.Table.{Shape, Table}
 use Rattle.model.specs.Expansion.{pieces as piecesOf}
 use Rattle.model.proofs.Steps.{pieces-length}
-use Rattle.model.specs.Lent.{lent}
-use Rattle.count.specs.Made.{pieceOf}
-use Rattle.count.proofs.Pieces.{count-skip, count-take, blocks-few}
+use Rattle.count.specs.Given.{Shares}
+use Rattle.count.proofs.Pieces.{count-skip, count-take}
 use Rattle.count.proofs.count_pieces.Statement.{statement}
 use Rattle.count.proofs.count_pieces.Tie as tie
 
 abbrev Inv-loop : tie.InvT-loop
-Inv-loop h tops ends blocks adjustments buckets bins olds dues count pieces₀ j₀ pieces j =
+Inv-loop last olds dues count pieces₀ j₀ pieces j =
     (j ≤ count)
     × (pieces ≤ j)
-    × (pieces
-    + length (piecesOf (lent h tops ends blocks adjustments) (sizes buckets bins) 0 j (count - j))
-    ≡ length (piecesOf (lent h tops ends blocks adjustments) (sizes buckets bins) 0 0 count))
+    × ((t : Table) (s : Shape) → Shares t s last olds dues
+    → pieces + length (piecesOf t s 0 j (count - j)) ≡ length (piecesOf t s 0 0 count))
 
 abbrev μ-loop : tie.MeasureT-loop
-μ-loop h tops ends blocks adjustments buckets bins olds dues count pieces₀ j₀ pieces j = count - j
-
--- the table lent, and the sizes asked for
-abbrev t : tie.Start Inv-loop μ-loop → Table
-t s = lent (s .args .h) (s .args .tops .now) (s .args .ends .now) (s .args .blocks .now) (s .args .adjustments .now)
-
-abbrev z : tie.Start Inv-loop μ-loop → Shape
-z s = sizes (s .args .buckets) (s .args .bins)
-
-blocks-after-requires : tie.Need-blocks-after-requires Inv-loop μ-loop
-blocks-after-requires c κs = c .before .before .before .before .pre .sound
-
-cast-count : tie.Need-cast-count Inv-loop μ-loop
-cast-count c = omega arith
+μ-loop last olds dues count pieces₀ j₀ pieces j = count - j
 
 loop-holds : tie.Need-loop-holds Inv-loop μ-loop
-loop-holds c = let start = c .before .before .before .before .before in (omega arith, omega arith, omega (arith, ap (λ n. length (piecesOf (t start) (z start) 0 0 n)) (sub-zero (c .blocks-after .result))))
+loop-holds c = (omega arith, omega arith, λ t s shares. omega (arith, ap (λ n. length (piecesOf t s 0 0 n)) (sub-zero (c .args .count))))
 
 piece-requires : tie.Need-piece-requires Inv-loop μ-loop
-piece-requires c κs =
-    let start = c .before .before .before .before .before .before .before in
-    (start .pre, omega (arith, blocks-few _ _ _ _ _ (start .pre) _ (c .before .before .blocks-after .ensures)))
+piece-requires c κs = (omega arith, c .before .before .pre .1)
 
 add-j : tie.Need-add-j Inv-loop μ-loop
 add-j c = omega arith
@@ -56,35 +39,43 @@ loop-less : tie.Need-loop-less Inv-loop μ-loop
 loop-less c = omega arith
 
 loop-again : tie.Need-loop-again Inv-loop μ-loop
-loop-again c =
-    let start = c .before .before .before .before .before .before .before .before .before in
-    let more : (pieceOf (t start) (z start) (c .before .before .before .loop .j) ≡ 0 → ⊥) = λ e. c .if1 .taken (c .before .piece .ensures ∙ e) in
-    (omega arith, omega arith, omega (arith, count-take (t start) (z start) (c .before .before .before .loop .j) (c .before .before .before .before .blocks-after .result) (omega arith) more))
+loop-again c = (
+  omega arith,
+  omega arith,
+  λ t s shares.
+      let turn = c .before .before .before .loop in
+      let some = count-take t s (turn .j) (c .before .before .before .before .args .count) (omega arith) (λ e. c .if1 .taken (c .before .piece .ensures t s shares ∙ e)) in
+      omega (arith, turn .inv .2 t s shares, some),
+)
 
 loop-less-2 : tie.Need-loop-less-2 Inv-loop μ-loop
 loop-less-2 c = omega arith
 
 loop-again-2 : tie.Need-loop-again-2 Inv-loop μ-loop
-loop-again-2 c =
-    let start = c .before .before .before .before .before .before .before .before .before in
-    let none = sym (c .before .piece .ensures) ∙ c .if1 .left in
-    (omega arith, omega arith, omega (arith, count-skip (t start) (z start) (c .before .before .before .loop .j) (c .before .before .before .before .blocks-after .result) (omega arith) none))
+loop-again-2 c = (
+  omega arith,
+  omega arith,
+  λ t s shares.
+      let turn = c .before .before .before .loop in
+      let none = count-skip t s (turn .j) (c .before .before .before .before .args .count) (omega arith) (sym (c .before .piece .ensures t s shares) ∙ c .if1 .left) in
+      omega (arith, turn .inv .2 t s shares, none),
+)
 
 returns : tie.Need-returns Inv-loop μ-loop
 unfolding piecesOf
-returns c =
-    let start = c .before .before .before .before .before .before .before in
-    let n = c .before .before .blocks-after in
-    let none : n .result - c .before .loop .j ≡ 0 = omega arith in (
-      omega (arith, blocks-few _ _ _ _ _ (start .pre) _ (n .ensures)),
-      λ b.
-          omega (
-            arith,
-            ap (λ k. length (piecesOf (t start) (z start) 0 (c .before .loop .j) k)) none,
-            pieces-length (t start) (z start) (n .result) 0 0 b,
-            ap (λ k. length (piecesOf (t start) (z start) b 0 k)) (n .ensures),
-          ),
-    )
+returns c = (
+  omega (arith, c .before .before .pre .0),
+  λ t s b shares.
+      let turn = c .before .loop in
+      let n = c .before .before .args .count in
+      let none : n - turn .j ≡ 0 = omega arith in
+      omega (
+        arith,
+        turn .inv .2 t s shares,
+        ap (λ k. length (piecesOf t s 0 (turn .j) k)) none,
+        pieces-length t s n 0 0 b,
+      ),
+)
 
 pub count-pieces-spec : {M : Type 1} → statement M
 count-pieces-spec =
@@ -92,8 +83,6 @@ count-pieces-spec =
     (tie.spec
     Inv-loop
     μ-loop
-    blocks-after-requires
-    cast-count
     loop-holds
     piece-requires
     add-j

@@ -1,72 +1,77 @@
 -- `count::measure` meets its contract: one return for each case. Assumes nothing.
 use mathlib.Core.Path.{sym, _∙_}
 use native.Mathlib.Omega.{arith}
-use borrow.Author.Needs.{needs}
-use Rattle.model.specs.Table.{Shape, Table, sizes}
+use Rattle.model.specs.Table.{sizes}
 use Rattle.model.specs.Expansion.{lengthTo}
+use Rattle.model.specs.Lent.{lent}
 use Rattle.model.proofs.Kept.{moved-is-least}
 use Rattle.model.proofs.Steps.{drained-count, drained-moves, filled-count, filled-moves}
-use Rattle.model.specs.Lent.{lent}
+use Rattle.count.proofs.Pieces.{grows-drains, grows-fills, blocks-few, fills-rise, fills-shares}
+use borrow.Author.Needs.{needs}
 use Rattle.count.proofs.measure.Statement.{statement}
 use Rattle.count.proofs.measure.Tie as tie
 
--- the table lent, and the sizes asked for
-abbrev t : tie.Start → Table
-t s = lent (s .args .h) (s .args .tops .now) (s .args .ends .now) (s .args .blocks .now) (s .args .adjustments .now)
-
-abbrev z : tie.Start → Shape
-z s = sizes (s .args .buckets) (s .args .bins)
-
-some-fall-requires : tie.Need-some-fall-requires
-some-fall-requires c κs = search needs
-
 count-drained-requires : tie.Need-count-drained-requires
-count-drained-requires c κs = search needs
+count-drained-requires c κs =
+    let given = c .before .before .before .before .pre in
+    record { one = given .one; other = given .other; holds = grows-drains (given .holds) }
 
 returns : tie.Need-returns
-returns c =
-    let falls = sym (c .before .before .some-fall .ensures) ∙ c .before .if1 .taken in
-    let (sound, (asked, dues)) = c .before .before .before .before .before .before .before .pre in
-    let moves = c .count-drained .ensures .1 ∙ drained-moves _ _ _ sound asked falls in
+returns c tops bins g =
+    let falls = sym (g .falling) ∙ c .before .if1 .taken in
+    let counted = c .count-drained .ensures tops bins (grows-drains g) in
+    let moves = counted .moved ∙ drained-moves _ _ _ (g .sound) (g .asked) falls in
     record {
-      intervals = c .count-drained .ensures .0 ∙ sym (drained-count _ _ _ sound asked falls);
+      intervals = counted .intervals ∙ sym (drained-count _ _ _ (g .sound) (g .asked) falls);
       moved = moves;
-      least = moves ∙ moved-is-least _ _ _ sound asked .0;
+      least = moves ∙ moved-is-least _ _ _ (g .sound) (g .asked) .0;
     }
+
+cast-last : tie.Need-cast-last
+cast-last c = search needs
+
+sub-last : tie.Need-sub-last
+sub-last c = search needs
+
+mul-last : tie.Need-mul-last
+mul-last c = search needs
+
+shared-slice-read-last : tie.Need-shared-slice-read-last
+shared-slice-read-last c = search needs
 
 count-pieces-requires : tie.Need-count-pieces-requires
 count-pieces-requires c κs =
-    let (sound, (asked, (olds, dues))) = c .before .before .before .before .before .before .pre in
-    record {
-      sound = sound;
-      asked = asked;
-      before = olds;
-      after = dues;
-      none = sym (c .before .some-fall .ensures) ∙ c .if1 .left;
-    }
+    let given = c .before .before .before .before .before .before .pre .holds in
+    let fills = grows-fills given (c .before .before .if1 .left) in
+    (blocks-few _ _ _ _ _ fills _ (given .counted), fills-rise _ _ _ _ _ fills)
 
-add-t12 : tie.Need-add-t12
-add-t12 c = search needs
+add-t17 : tie.Need-add-t17
+add-t17 c = search needs
 
 returns-2 : tie.Need-returns-2
-returns-2 c =
+returns-2 c tops bins g =
+    let fills = grows-fills g (c .before .before .before .before .if1 .left) in
     let start = c .before .before .before .before .before .before .before .before in
-    let none = sym (c .before .before .before .some-fall .ensures) ∙ c .before .before .if1 .left in
-    let (sound, (asked, dues)) = start .pre in
-    let moves = filled-moves _ _ _ sound asked none in
+    let t = lent (start .args .h) tops (start .args .ends .now) (start .args .blocks .now) (start .args .adjustments .now) in
+    let s = sizes (start .args .buckets) bins in
+    let pieces = c .before .count-pieces .ensures .1 t s (lengthTo t s) (fills-shares _ _ _ _ _ fills) in
+    let moves = filled-moves _ _ _ (g .sound) (g .asked) (fills .none) in
     record {
-      intervals = omega (arith, c .before .count-pieces .ensures .1 (lengthTo (t start) (z start)), filled-count _ _ _ sound asked none);
+      intervals = omega (arith, rw (g .counted) at pieces, filled-count _ _ _ (g .sound) (g .asked) (fills .none));
       moved = moves;
-      least = moves ∙ moved-is-least _ _ _ sound asked .0;
+      least = moves ∙ moved-is-least _ _ _ (g .sound) (g .asked) .0;
     }
 
 pub measure-spec : {M : Type 1} → statement M
 measure-spec =
     tie.close
     (tie.spec
-    some-fall-requires
     count-drained-requires
     returns
+    cast-last
+    sub-last
+    mul-last
+    shared-slice-read-last
     count-pieces-requires
-    add-t12
+    add-t17
     returns-2)

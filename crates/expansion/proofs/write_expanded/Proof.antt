@@ -1,10 +1,13 @@
 -- `expansion::write_expanded` meets its contract: the tops and the intervals are written. Assumes nothing.
+use mathlib.Core.Path.{refl}
 use native.Mathlib.Omega.{arith}
 use lib.ListN.{length}
 use borrow.Author.Needs.{needs}
-use Rattle.model.specs.Table.{Shape, Table, sizes}
+use Rattle.model.specs.Table.{Shape, Table, table, sizes}
 use Rattle.model.specs.Expansion.{expanded}
 use Rattle.model.proofs.Rooms.{roomy}
+use Rattle.model.proofs.Wells.{sound-well}
+use Rattle.model.proofs.Growths.{accepted, block-limits}
 use Rattle.model.specs.Lent.{lent}
 use Rattle.drain.specs.Stored.{Room}
 use Rattle.drain.proofs.Stores.{stored-written}
@@ -23,7 +26,7 @@ room
     : (s : tie.Start)
     → Room (length (expanded (t s) (z s) .intervals)) (s .args .new-ends .now) (s .args .new-blocks .now) (s .args .new-adjustments .now)
 room s =
-    let (_, (_, (_, (_, (room-lent, few))))) = s .pre in
+    let (_, (room-lent, few)) = s .pre in
     let r = roomy _ room-lent in
     record {
       ends = omega (arith, r .ends);
@@ -34,14 +37,25 @@ room s =
 write-tops-requires : tie.Need-write-tops-requires
 write-tops-requires c κs =
     let start = c .before .before .before .before .before .before .before .before .before in
-    let (sound, (asked, (_, (_, (room-lent, _))))) = start .pre in
-    (sound, (asked, roomy _ room-lent .tops))
+    let (grows, (room-lent, _)) = start .pre in (
+      grows .sound .topsLong,
+      grows .sound .blockLimit,
+      omega (
+        arith,
+        grows .counted,
+        block-limits (t start) (z start) (sound-well _ _ (grows .sound)) (accepted (t start) (z start) (grows .asked)),
+      ),
+      roomy _ room-lent .tops,
+    )
 
 write-intervals-requires : tie.Need-write-intervals-requires
 write-intervals-requires c κs =
     let start = c .before .before .before .before .before .before .before .before .before .before .before .before .before .before .before in
-    let (sound, (asked, (olds, (dues, _)))) = start .pre in
-    (sound, (asked, (olds, (dues, room start))))
+    record {
+      one = start .args .tops .now;
+      other = start .args .bins;
+      holds = record { grows = start .pre .0; room = room start };
+    }
 
 same-length : tie.Need-same-length
 same-length c = search needs
@@ -56,10 +70,15 @@ same-length-4 : tie.Need-same-length-4
 same-length-4 c = search needs
 
 returns : tie.Need-returns
-unfolding expanded
+unfolding expanded table
 returns c =
-    let start = c .before .before .before .before .before .before .before .before .before .before .before .before .before .before .before .before .before .before .before .before .before .before in
-    stored-written (expanded (t start) (z start)) (start .args .new-tops .now) _ (c .before .before .before .before .before .before .before .before .before .before .before .before .write-tops .ensures) (c .before .before .before .before .before .before .write-intervals .ensures) (room start)
+    let tops = c .before .before .before .before .before .before .before .before .before .before .before .before in
+    let start = tops .before .before .before .before .before .before .before .before .before .before in
+    let grows = start .pre .0 in
+    stored-written (expanded (t start) (z start)) (start .args .new-tops .now) _
+    (tops .write-tops .ensures (t start) (z start) refl refl (grows .counted))
+    (c .before .before .before .before .before .before .write-intervals .ensures _ _ grows)
+    (room start)
 
 pub write-expanded-spec : {M : Type 1} → statement M
 write-expanded-spec =

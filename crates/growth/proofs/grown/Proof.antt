@@ -1,7 +1,7 @@
--- `growth::grown` meets its contract: rules 1 to 5, then 8, then the new table. Assumes nothing.
+-- `growth::grown` meets its contract: rules 1 to 5, then what it asks of an accepted growth. Assumes nothing.
 use mathlib.Core.Path.{refl, sym, _∙_}
-use native.Mathlib.Omega.{arith}
-use Rattle.growth.proofs.Grows.{grow-same, grow-refused, grow-full, grow-accepted}
+use Rattle.model.proofs.Wells.{tops-length}
+use Rattle.growth.proofs.Grows.{grow-same, grow-refused}
 use borrow.Author.Needs.{needs}
 use Rattle.growth.proofs.grown.Statement.{statement}
 use Rattle.growth.proofs.grown.Tie as tie
@@ -22,39 +22,34 @@ dues-before-requires c κs = search needs
 
 dues-after-requires : tie.Need-dues-after-requires
 dues-after-requires c κs =
-    (c .before .before .before .before .before .before .before .before .before .before .before .before .before .pre .0, (sym (c .before .before .before .before .growth-refusal .ensures) ∙ c .before .before .before .if1 .left, refl))
+    let asked = c .before .before .before in
+    (asked .before .before .before .before .before .before .before .before .before .before .pre .0, (sym (asked .before .growth-refusal .ensures) ∙ asked .if1 .left, refl))
 
-measure-requires : tie.Need-measure-requires
-measure-requires c κs = (
-  c .before .before .before .before .before .before .before .before .before .before .before .before .before .before .before .before .pre .0,
-  (
-    sym (c .before .before .before .before .before .before .before .growth-refusal .ensures) ∙ c .before .before .before .before .before .before .if1 .left,
-    (c .before .before .before .before .dues-before .ensures, c .before .before .dues-after .ensures),
-  ),
-)
-
-refused-table-requires-2 : tie.Need-refused-table-requires-2
-refused-table-requires-2 c κs = search needs
-
-returns-2 : tie.Need-returns-2
-returns-2 c =
-    grow-same _ _ _ _ _ _ (c .refused-table2 .ensures)
-    (grow-full _ _ _ _ (c .before .before .before .before .before .before .before .before .before .before .before .growth-refusal .ensures) (c .before .before .before .before .before .before .before .before .before .before .if1 .left) (omega (arith, c .before .before .before .measure .ensures .intervals)))
+some-fall-requires : tie.Need-some-fall-requires
+some-fall-requires c κs = search needs
 
 blocks-after-requires : tie.Need-blocks-after-requires
-blocks-after-requires c κs = c .before .before .before .before .before .before .before .before .before .before .before .before .before .before .before .before .before .before .before .pre .0
+blocks-after-requires c κs = search needs
 
-write-expanded-requires : tie.Need-write-expanded-requires
-write-expanded-requires c κs =
-    let (sound, room) = c .before .before .before .before .before .before .before .before .before .before .before .before .before .before .before .before .before .before .before .before .before .before .before .before .before .before .pre in (
-      sound,
-      (
-        sym (c .before .before .before .before .before .before .before .before .before .before .before .before .before .before .before .before .before .growth-refusal .ensures) ∙ c .before .before .before .before .before .before .before .before .before .before .before .before .before .before .before .before .if1 .left,
-        (
-          c .before .before .before .before .before .before .before .before .before .before .before .before .before .before .dues-before .ensures,
-          (c .before .before .before .before .before .before .before .before .before .before .before .before .dues-after .ensures, (room, omega (arith, c .before .before .before .before .before .before .before .before .before .measure .ensures .intervals))),
-        ),
-      ),
+accepted-requires : tie.Need-accepted-requires
+accepted-requires c κs =
+    let counting = c .before .before .before .before .before .before in
+    let falling = counting .before in
+    let shared = falling .before .before .before in
+    let held = shared .before .before in
+    let asked = held .before .before in
+    let (sound, room) = asked .before .before .before .before .before .before .before .before .before .before .pre in
+    let before = held .dues-before .ensures in
+    let after = shared .dues-after .ensures in (
+      record {
+        sound = sound;
+        asked = sym (asked .before .growth-refusal .ensures) ∙ asked .if1 .left;
+        before = before;
+        after = after;
+        falling = falling .some-fall .ensures _ _ (tops-length _ _ sound) before after;
+        counted = counting .blocks-after .ensures _ refl;
+      },
+      room,
     )
 
 same-length : tie.Need-same-length
@@ -69,23 +64,8 @@ same-length-3 c = search needs
 same-length-4 : tie.Need-same-length-4
 same-length-4 c = search needs
 
-returns-3 : tie.Need-returns-3
-returns-3 c =
-    let stored = c .before .before .before .before .before .before .before .before in
-    let blocks = stored .before .before .before .before .before .before .before in
-    let few = blocks .before in
-    let counting = few .before .before in
-    let asked = counting .before .before .before .before .before .before .before in
-    let counted = counting .measure .ensures in
-    grow-accepted _ _ _ _ (asked .before .growth-refusal .ensures) _ _ (asked .if1 .left)
-    (omega (arith, few .if2 .left, counted .intervals))
-    (omega arith)
-    (omega arith)
-    (omega (arith, blocks .blocks-after .ensures))
-    (omega (arith, counted .intervals))
-    (omega (arith, counted .moved))
-    (omega (arith, counted .least))
-    (stored .write-expanded .ensures)
+returns-2 : tie.Need-returns-2
+returns-2 c = search needs
 
 pub grown-spec : {M : Type 1} → statement M
 grown-spec =
@@ -96,13 +76,11 @@ grown-spec =
     returns
     dues-before-requires
     dues-after-requires
-    measure-requires
-    refused-table-requires-2
-    returns-2
+    some-fall-requires
     blocks-after-requires
-    write-expanded-requires
+    accepted-requires
     same-length
     same-length-2
     same-length-3
     same-length-4
-    returns-3)
+    returns-2)

@@ -1,10 +1,5 @@
 -- `plan::plan_at` meets its contract: the interval's bounds, and its block's due. Assumes nothing.
-use mathlib.Core.Path.{_∙_, ap}
 use native.Mathlib.Omega.{arith}
-use lib.ListN.{getD}
-use Rattle.model.specs.Table.{interval}
-use Rattle.model.specs.Expansion.{plan, planFor}
-use Rattle.plan.proofs.Turns.{interval-turn}
 use borrow.Author.Needs.{needs}
 use Rattle.plan.proofs.plan_at.Statement.{statement}
 use Rattle.plan.proofs.plan_at.Tie as tie
@@ -16,13 +11,13 @@ shared-slice-read-plan-interval : tie.Need-shared-slice-read-plan-interval
 shared-slice-read-plan-interval c = search needs
 
 cast-plan-interval : tie.Need-cast-plan-interval
-cast-plan-interval c = let t = interval-turn _ _ (c .before .before .before .before .before .pre .0) _ (c .before .before .before .before .before .pre .1 .1 .0) in omega arith
+cast-plan-interval c = omega (arith, c .before .before .before .before .pre .block)
 
 mul-plan-interval-2 : tie.Need-mul-plan-interval-2
-mul-plan-interval-2 c = let t = interval-turn _ _ (c .before .before .before .before .before .pre .0) _ (c .before .before .before .before .before .pre .1 .1 .0) in omega arith
+mul-plan-interval-2 c = omega (arith, c .before .before .before .before .pre .block)
 
 element-copy-out-plan-interval : tie.Need-element-copy-out-plan-interval
-element-copy-out-plan-interval c = let t = interval-turn _ _ (c .before .before .before .before .before .pre .0) _ (c .before .before .before .before .before .pre .1 .1 .0) in omega arith
+element-copy-out-plan-interval c = omega (arith, c .before .before .before .before .pre .block)
 
 mul-plan-interval-3 : tie.Need-mul-plan-interval-3
 mul-plan-interval-3 c = search needs
@@ -37,25 +32,10 @@ shared-slice-read-plan-interval-3 : tie.Need-shared-slice-read-plan-interval-3
 shared-slice-read-plan-interval-3 c = search needs
 
 plan-interval-requires : tie.Need-plan-interval-requires
-plan-interval-requires c κs =
-    let start = c .before .before .before .before .before .before .before .before in
-    let t = interval-turn _ _ (start .pre .0) _ (start .pre .1 .1 .0) in
-    (omega arith, omega arith, start .pre .1 .1 .2)
+plan-interval-requires c κs = search needs
 
 returns : tie.Need-returns
-unfolding planFor
-returns c =
-    let start = c .before .before .before .before .before .before .before .before .before in
-    let t = interval-turn _ _ (start .pre .0) _ (start .pre .1 .1 .0) in
-    c .plan-interval .ensures _ ∙ ap
-    (λ due.
-    plan due (start .args .start)
-    (interval
-    (getD (start .args .ends .now) (start .args .i) 0)
-    (getD (start .args .blocks .now) (start .args .i) 0)
-    (getD (start .args .adjustments .now) (start .args .i) 0))
-    (start .args .moved))
-    (start .pre .1 .0 (getD (start .args .blocks .now) (start .args .i) 0) (omega arith))
+returns c = c .plan-interval .ensures _
 
 pub plan-at-spec : {M : Type 1} → statement M
 plan-at-spec =

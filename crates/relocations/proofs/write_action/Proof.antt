@@ -15,8 +15,8 @@ write-part-requires : tie.Need-write-part-requires
 write-part-requires c κs =
     let start = c .before .before .before .before .before in
     moves-part (start .args .action) (start .args .start) (start .args .end) (start .args .old) (start .args .first-bin) (start .args .bins)
-    (start .args .moved)
-    (start .pre)
+    (start .pre .0)
+    (start .pre .1)
     _
     (c .before .before .action .given .1)
 
@@ -27,30 +27,30 @@ write-part-requires-2 : tie.Need-write-part-requires-2
 write-part-requires-2 c κs =
     let start = c .before .before .before .before .before in
     splits-part (start .args .action) (start .args .start) (start .args .end) (start .args .old) (start .args .first-bin) (start .args .bins)
-    (start .args .moved)
-    (start .pre)
+    (start .pre .0)
+    (start .pre .1)
     _
     _
     (c .before .before .action2 .given .1)
 
 returns : tie.Need-returns
-returns c b g l =
+returns c w moves b g l =
     let start = c .before .before .before in
     rw
     (rows-stay (start .args .action) (start .args .start) (start .args .end) (start .args .old) (start .args .first-bin) (start .args .bins)
     b g l (c .enum-told .given .1))
-    (paged-none (start .args .first) (start .args .moved) (start .args .rows .now))
+    (paged-none (start .args .first) w (start .args .rows .now))
 
 same-length : tie.Need-same-length
 same-length c = search needs
 
 returns-2 : tie.Need-returns-2
-returns-2 c b g l =
+returns-2 c w moves b g l =
     let start = c .before .before .before .before .before .before .before .before in
     c .before .before .write-part .ensures
     ∙ moves-rows (start .args .action) (start .args .start) (start .args .end) (start .args .old) (start .args .first-bin) (start .args .bins)
-    (start .args .moved)
-    (start .pre)
+    w
+    moves
     _
     (c .before .before .before .before .before .action .given .1)
     (start .args .first)
@@ -61,12 +61,12 @@ same-length-2 : tie.Need-same-length-2
 same-length-2 c = search needs
 
 returns-3 : tie.Need-returns-3
-returns-3 c b g l =
+returns-3 c w moves b g l =
     let start = c .before .before .before .before .before .before .before .before in
     c .before .before .write-part2 .ensures
     ∙ splits-rows (start .args .action) (start .args .start) (start .args .end) (start .args .old) (start .args .first-bin) (start .args .bins)
-    (start .args .moved)
-    (start .pre)
+    w
+    moves
     _
     _
     (c .before .before .before .before .before .action2 .given .1)

@@ -3,33 +3,40 @@ use Prim.Native.Nat.{_/_}
 use mathlib.Core.Path.{_∙_, ap}
 use native.Mathlib.Nat.{le-trans, le-of-eq}
 use native.Mathlib.Omega.{arith}
+use Rattle.model.specs.Table.{sizes}
+use Rattle.model.specs.Lent.{lent}
 use Rattle.model.proofs.Rows.{rows-falls}
 use Rattle.model.proofs.Pages.{page-past, page-left, page-room}
+use Rattle.relocations.specs.Spans.{Moves}
 use borrow.Author.Needs.{needs}
 use Rattle.relocations.proofs.write_relocations.Statement.{statement}
 use Rattle.relocations.proofs.write_relocations.Tie as tie
 
-relocation-count-requires : tie.Need-relocation-count-requires
-relocation-count-requires c κs = search needs
-
 returns : tie.Need-returns
 returns c =
-    page-past (c .before .before .before .before .before .before .before .args .first) _ _ (omega (arith, c .if1 .taken, c .before .relocation-count .ensures))
+    let start = c .before .before .before .before .before .before in
+    page-past (start .args .first) _ _ (omega (arith, c .if1 .taken, start .pre .1 .1 .0))
 
 dues-after-requires : tie.Need-dues-after-requires
 dues-after-requires c κs = search needs
 
+-- there is a row from order number `first` on, so some old block is due less
+moves
+    : (c : tie.After-write-moved-arg)
+    → let s = c .before .before .before .before .before .before .before .before .before .before in
+    Moves
+    (lent (s .args .h) (s .args .tops .now) (s .args .ends .now) (s .args .blocks .now) (s .args .adjustments .now))
+    (sizes (s .args .buckets) (s .args .bins))
+    (c .before .before .dues-after .last .1 .1 .1 .1 .1 .1 .1 .0)
+moves c =
+    let start = c .before .before .before .before .before .before .before .before .before .before in
+    let (sound, (asked, (all, most))) = start .pre in
+    let other = c .before .before .before .before .if1 .left in
+    let falls = rows-falls (start .args .h) _ _ sound asked (start .args .first) (omega arith) in
+    record { asked = asked; falls = falls; after = c .before .before .dues-after .ensures }
+
 write-moved-requires : tie.Need-write-moved-requires
-write-moved-requires c κs =
-    let start = c .before .before .before .before .before .before .before .before .before .before .before in
-    let all = c .before .before .before .before .before .relocation-count .ensures in
-    let other = c .before .before .before .before .if1 .left in (
-      start .pre .0,
-      (
-        start .pre .1 .0,
-        (rows-falls (start .args .h) _ _ (start .pre .0) (start .pre .1 .0) (start .args .first) (omega (arith, start .pre .1 .1)), c .before .before .dues-after .ensures),
-      ),
-    )
+write-moved-requires c κs = let start = c .before .before .before .before .before .before .before .before .before .before in (start .pre .0, (start .args .buckets, moves c))
 
 sub-left : tie.Need-sub-left
 sub-left c = search needs
@@ -42,11 +49,11 @@ same-length c = search needs
 
 returns-2 : tie.Need-returns-2
 returns-2 c =
-    let start = c .before .before .before .before .before .before .before .before .before .before .before .before .before .before .before in
+    let start = c .before .before .before .before .before .before .before .before .before .before .before .before .before .before in
     let written = c .before .before .before .write-moved in (
-      page-left (start .args .first) _ _ _ (c .before .before .before .before .before .before .before .before .before .relocation-count .ensures)
-          (le-trans (c .if2 .taken) (le-of-eq (ap (λ n. n / 5) (written .kept .1 .1 .1 .1 .1 .1 .1 .1 .1 .0)))),
-      written .ensures,
+      page-left (start .args .first) _ _ _ (start .pre .1 .1 .0)
+          (le-trans (c .if2 .taken) (le-of-eq (ap (λ n. n / 5) (written .kept .1 .1 .1 .1 .1 .1 .1 .1 .0)))),
+      written .ensures (start .args .buckets) (moves (c .before .before .before .before)),
     )
 
 cast-result : tie.Need-cast-result
@@ -57,18 +64,17 @@ same-length-2 c = search needs
 
 returns-3 : tie.Need-returns-3
 returns-3 c =
-    let start = c .before .before .before .before .before .before .before .before .before .before .before .before .before .before .before in
+    let start = c .before .before .before .before .before .before .before .before .before .before .before .before .before .before in
     let written = c .before .before .before .write-moved in
-    let room = ap (λ n. n / 5) (written .kept .1 .1 .1 .1 .1 .1 .1 .1 .1 .0) in (
-      room ∙ page-room (start .args .first) _ _ _ (c .before .before .before .before .before .before .before .before .before .relocation-count .ensures) (rw room at (c .if2 .left)),
-      written .ensures,
+    let room = ap (λ n. n / 5) (written .kept .1 .1 .1 .1 .1 .1 .1 .1 .0) in (
+      room ∙ page-room (start .args .first) _ _ _ (start .pre .1 .1 .0) (rw room at (c .if2 .left)),
+      written .ensures (start .args .buckets) (moves (c .before .before .before .before)),
     )
 
 pub write-relocations-spec : {M : Type 1} → statement M
 write-relocations-spec =
     tie.close
     (tie.spec
-    relocation-count-requires
     returns
     dues-after-requires
     write-moved-requires
