@@ -77,21 +77,23 @@ fn page(
 // A page of the move list of the latest growth, from order number `first` on; `rows` is written over.
 pub fn list(
     state: State,
-    tops: &[u32],
-    ends: &[u32],
-    blocks: &[u32],
-    adjustments: &[u32],
-    second_tops: &[u32],
-    second_ends: &[u32],
-    second_blocks: &[u32],
-    second_adjustments: &[u32],
+    tops: &[u32; 65],
+    ends: &[u32; 2081],
+    blocks: &[u32; 2081],
+    adjustments: &[u32; 2081],
+    second_tops: &[u32; 65],
+    second_ends: &[u32; 2081],
+    second_blocks: &[u32; 2081],
+    second_adjustments: &[u32; 2081],
     first: u32,
     rows: &mut [u32],
     out: &mut [u8],
 ) -> Page
-    requires { ⌜ RackRight state tops ends blocks adjustments «second_tops» «second_ends» «second_blocks» «second_adjustments» × Room rows out ⌝ }
+    requires { ⌜ RackRight state tops ends blocks adjustments «second_tops» «second_ends» «second_blocks» «second_adjustments» ⌝ }
     requires { ⌜ first ≤ length (movesIn (rackNow state tops ends blocks adjustments «second_tops» «second_ends» «second_blocks» «second_adjustments»)) ⌝ }
-    ensures { λ r. ⌜ Lists (movesIn (rackGiven state tops ends blocks adjustments «second_tops» «second_ends» «second_blocks» «second_adjustments»)) first rows out r ⌝ }
+    requires { ⌜ Room rows out ⌝ }
+    ensures { λ r.
+        ⌜ Lists (movesIn (rackGiven state tops ends blocks adjustments «second_tops» «second_ends» «second_blocks» «second_adjustments»)) first rows out r ⌝ }
 {
     let none = Page {
         rows: 0,

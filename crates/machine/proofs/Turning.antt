@@ -205,7 +205,8 @@ module _
         line-went =
             record {
               goes =
-                  line-goes {s = stands m k bytes} {s′ = stands next (rack (r .state) one two) bytes} l line-same none (omega (arith, end-within (m .from) end bytes within at, length-drop (m .from) bytes)) obeyed next-line said-line;
+                  line-goes {s = stands m k bytes} {s′ = stands next (rack (r .state) one two) bytes} l line-same none
+                  (omega (arith, end-within (m .from) end bytes within at, length-drop (m .from) bytes)) obeyed next-line said-line;
               sane = record { right = subst Right (sym (s .maps)) (right-next (held k) (sane .right) (read l)); row = λ e. omega arith };
               room = omega (arith, s .place, shown-short (answerTo k l), ap length (s .bytes), length-sets out x (shown (answerTo k l)));
               size = refl;
@@ -312,7 +313,12 @@ module _
                     size = omega (arith, count, ap length moved, length-append new (drop (length new) block));
                   };
               room = w .room;
-              rests = λ e. record { listing = idle .listing; rest = rw front unfinished; few = omega (arith, count, length-take keptBytes (drop (r .machine .from) (bytesOf (r .machine) block))) };
+              rests = λ e.
+                  record {
+                    listing = idle .listing;
+                    rest = rw front unfinished;
+                    few = omega (arith, count, length-take keptBytes (drop (r .machine .from) (bytesOf (r .machine) block)));
+                  };
             }
 
 -- the page, if a list is in progress

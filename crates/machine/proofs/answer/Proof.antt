@@ -11,10 +11,6 @@ use Rattle.machine.specs.Machine.{Went}
 use Rattle.machine.proofs.Turning.{went-none, went-then, end-within, line-none, line-went, answers-done, answers-more}
 use Rattle.machine.proofs.answer.Statement.{statement}
 use Rattle.machine.proofs.answer.Tie as tie
-use Rattle.machine.proofs.answer.Reads as reads
-use Rattle.machine.proofs.answer.Lts as lts
-use Rattle.console.proofs.step.step.Reads as step-reads
-use Rattle.lines.proofs.feed_at.Reads as feed-at-reads
 
 abbrev Inv-loop : tie.InvT-loop
 Inv-loop block tops₀ ends₀ blocks₀ adjustments₀ second-tops₀ second-ends₀ second-blocks₀ second-adjustments₀ put out₀ m₀ at₀ tops ends blocks adjustments second-tops second-ends second-blocks second-adjustments out m at =
@@ -50,10 +46,14 @@ part-step-start : tie.Need-part-step-start Inv-loop μ-loop
 part-step-start c = let inv = c .before .before .before .before .loop .inv in omega (arith, inv .0 .within)
 
 part-step-end : tie.Need-part-step-end Inv-loop μ-loop
-part-step-end c = let inv = c .before .before .before .before .loop .inv in omega (arith, inv .0 .within, end-within _ _ _ (inv .0 .within) (c .before .before .feed-at .ensures))
+part-step-end c =
+    let inv = c .before .before .before .before .loop .inv in
+    omega (arith, inv .0 .within, end-within _ _ _ (inv .0 .within) (c .before .before .feed-at .ensures))
 
 step-requires : tie.Need-step-requires Inv-loop μ-loop
-step-requires c κs = (omega arith, c .before .before .before .before .before .before .before .before .before .before .before .before .before .before .loop .inv .0 .sane .right)
+step-requires c κs =
+    let inv = c .before .before .before .before .before .before .before .before .before .before .before .before .before .before .loop .inv in
+    (omega arith, inv .0 .sane .right)
 
 loop-again : tie.Need-loop-again Inv-loop μ-loop
 loop-again c =

@@ -7,19 +7,23 @@ use Rattle.machine.proofs.page.Tie as tie
 
 list-requires : tie.Need-list-requires
 list-requires c κs =
-    let pre = c .before .before .before .before .before .before .before .before .before .before .before .before .pre in
-    ((pre .right, omega arith), pre .row (c .before .before .before .before .before .before .before .before .before .before .if1 .taken))
+    let pre = c .before .before .before .before .pre in
+    (pre .right, (pre .row (c .before .before .if1 .taken), omega arith))
 
 add-row : tie.Need-add-row
-add-row c = omega (arith, page-row _ _ _ _ _ _ _ (c .before .before .before .before .before .before .before .before .before .before .before .before .before .if1 .taken) (c .before .before .before .before .before .before .before .before .before .before .before .before .before .before .before .pre) (c .before .before .list .ensures))
+add-row c =
+    let start = c .before .before .before .before .before in
+    omega (arith, page-row _ _ _ _ _ _ _ (start .if1 .taken) (start .before .before .pre) (c .before .before .list .ensures))
 
 sub-left : tie.Need-sub-left
-sub-left c = page-row _ _ _ _ _ _ _ (c .before .before .before .before .before .before .before .before .before .before .before .before .before .before .if1 .taken) (c .before .before .before .before .before .before .before .before .before .before .before .before .before .before .before .before .pre) (c .before .before .before .list .ensures)
+sub-left c =
+    let start = c .before .before .before .before .before .before in
+    page-row _ _ _ _ _ _ _ (start .if1 .taken) (start .before .before .pre) (c .before .before .before .list .ensures)
 
 returns : tie.Need-returns
 returns c =
-    paged _ _ _ _ _ _ _ (c .before .before .before .before .before .before .before .before .before .before .before .before .before .before .if1 .taken) (c .before .before .before .before .before .before .before .before .before .before .before .before .before .before .before .before .pre)
-    (c .before .before .before .list .ensures) _ _
+    let start = c .before .before .before .before .before .before in
+    paged _ _ _ _ _ _ _ (start .if1 .taken) (start .before .before .pre) (c .before .before .before .list .ensures) _ _
     (omega arith) (λ e. omega (arith, ltb-true)) (λ e. omega (arith, ltb-false)) (omega arith)
 
 returns-2 : tie.Need-returns-2

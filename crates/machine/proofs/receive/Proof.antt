@@ -4,8 +4,6 @@ use Rattle.machine.proofs.Receiving.{receives-some, receives-feed, rece
 use borrow.Author.Needs.{needs}
 use Rattle.machine.proofs.receive.Statement.{statement}
 use Rattle.machine.proofs.receive.Tie as tie
-use Rattle.machine.proofs.receive.Reads as reads
-use Rattle.machine.proofs.receive.Lts as lts
 
 add-m : tie.Need-add-m
 add-m c = search needs

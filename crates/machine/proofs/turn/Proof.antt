@@ -6,51 +6,61 @@ use Rattle.machine.proofs.Turning.{page-turns, page-size, page-answers,
 use borrow.Author.Needs.{needs}
 use Rattle.machine.proofs.turn.Statement.{statement}
 use Rattle.machine.proofs.turn.Tie as tie
-use Rattle.machine.proofs.turn.Reads as reads
-use Rattle.machine.proofs.turn.Lts as lts
-use Rattle.machine.proofs.answer.Reads as answer-reads
-use Rattle.machine.proofs.keep.Reads as keep-reads
-use Rattle.machine.proofs.page.Reads as page-reads
 
 page-requires : tie.Need-page-requires
 page-requires c κs = search needs
 
 returns : tie.Need-returns
-returns c = page-turns (c .before .before .before .before .before .before .before .before .before .before .before .before .before .pre) (c .before .page .ensures) (c .if1 .taken)
+returns c =
+    let page = c .before in
+    let pre = page .before .before .before .before .before .before .before .before .before .before .before .before .pre in
+    page-turns pre (page .page .ensures) (c .if1 .taken)
 
 slice-reshare-prefix-answer : tie.Need-slice-reshare-prefix-answer
-slice-reshare-prefix-answer c = page-size (c .before .before .before .before .before .before .before .before .before .before .before .before .before .before .pre) (c .before .before .page .ensures)
+slice-reshare-prefix-answer c =
+    let page = c .before .before in
+    let pre = page .before .before .before .before .before .before .before .before .before .before .before .before .pre in
+    page-size pre (page .page .ensures)
 
 slice-aggregate-answer : tie.Need-slice-aggregate-answer
-slice-aggregate-answer c = sym (length-take-le _ _ (page-size (c .before .before .before .before .before .before .before .before .before .before .before .before .before .before .before .pre) (c .before .before .before .page .ensures)))
+slice-aggregate-answer c =
+    let page = c .before .before .before in
+    let pre = page .before .before .before .before .before .before .before .before .before .before .before .before .pre in
+    sym (length-take-le _ _ (page-size pre (page .page .ensures)))
 
 answer-requires : tie.Need-answer-requires
 answer-requires c κs =
-    let page = c .before .before .before .before .before .before .before .before .before .before .before in
-    page-answers (page .before .before .before .before .before .before .before .before .before .before .before .before .before .pre) (page .before .page .ensures) (page .if1 .left)
+    let listed = c .before .before .before .before .before .before .before .before .before .before .before in
+    let page = listed .before in
+    let pre = page .before .before .before .before .before .before .before .before .before .before .before .before .pre in
+    page-answers pre (page .page .ensures) (listed .if1 .left)
 
 same-length : tie.Need-same-length
 same-length c = search needs
 
 returns-2 : tie.Need-returns-2
 returns-2 c =
-    let page = c .before .before .before .before .before .before .before .before .before .before .before .before .before in
-    lines-turns (page .before .before .before .before .before .before .before .before .before .before .before .before .before .pre) (page .before .page .ensures) (c .before .answer .ensures) (c .if2 .taken)
+    let page = c .before .before .before .before .before .before .before .before .before .before .before .before .before .before in
+    let pre = page .before .before .before .before .before .before .before .before .before .before .before .before .pre in
+    lines-turns pre (page .page .ensures) (c .before .answer .ensures) (c .if2 .taken)
 
 keep-requires : tie.Need-keep-requires
 keep-requires c κs =
-    let page = c .before .before .before .before .before .before .before .before .before .before .before .before .before .before .before in
-    lines-places (page .before .before .before .before .before .before .before .before .before .before .before .before .before .pre) (page .before .page .ensures) (c .before .before .before .answer .ensures)
+    let page = c .before .before .before .before .before .before .before .before .before .before .before .before .before .before .before .before in
+    let pre = page .before .before .before .before .before .before .before .before .before .before .before .before .pre in
+    lines-places pre (page .page .ensures) (c .before .before .before .answer .ensures)
 
 same-length-2 : tie.Need-same-length-2
 same-length-2 c = search needs
 
 returns-3 : tie.Need-returns-3
 returns-3 c =
-    let page = c .before .before .before .before .before .before .before .before .before .before .before .before .before .before .before .before .before .before in
-    let lines = c .before .before .before .before .before in
-    kept-turns (page .before .before .before .before .before .before .before .before .before .before .before .before .before .pre) (page .before .page .ensures) (lines .before .answer .ensures) (lines .if2 .left)
-    _ _ (c .before .before .keep .ensures .0) (c .before .before .keep .ensures .1) _ (omega arith)
+    let lines = c .before .before .before .before .before .before in
+    let page = lines .before .before .before .before .before .before .before .before .before .before .before .before .before in
+    let pre = page .before .before .before .before .before .before .before .before .before .before .before .before .pre in
+    let kept = c .before .before .keep .ensures in
+    kept-turns pre (page .page .ensures) (lines .answer .ensures) (c .before .before .before .before .before .if2 .left)
+    _ _ (kept .0) (kept .1) _ (omega arith)
 
 pub turn-spec : {M : Type 1} → statement M
 turn-spec =

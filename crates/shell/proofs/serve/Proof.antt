@@ -44,7 +44,8 @@ receive-requires c κs =
 work-requires : tie.Need-work-requires Inv-loop μ-loop
 work-requires c κs =
     let received = c .before .before .before .before .before .before .before .before .before .before .before in
-    received .receive .ensures .ready _ _ (ready-read (received .before .before .before .before .before .loop .inv .0) (omega (arith, received .before .before .before .before .before .loop .inv .1 .few)))
+    let inv = received .before .before .before .before .before .loop .inv in
+    received .receive .ensures .ready _ _ (ready-read (inv .0) (omega (arith, inv .1 .few)))
 
 returns : tie.Need-returns Inv-loop μ-loop
 returns c = tt
@@ -53,10 +54,14 @@ returns-2 : tie.Need-returns-2 Inv-loop μ-loop
 returns-2 c = tt
 
 sub-reads : tie.Need-sub-reads Inv-loop μ-loop
-sub-reads c = c .before .before .before .before .before .before .before .before .before .before .before .before .before .before .before .before .before .before .before .loop-test .taken
+sub-reads c =
+    let got = c .before .before .before .before .before .before .before .before .before .before .before .before .before .before in
+    got .before .before .before .before .before .loop-test .taken
 
 loop-less : tie.Need-loop-less Inv-loop μ-loop
-loop-less c = one-less _ (c .before .before .before .before .before .before .before .before .before .before .before .before .before .before .before .before .before .before .before .loop-test .taken)
+loop-less c =
+    let got = c .before .before .before .before .before .before .before .before .before .before .before .before .before .before in
+    one-less _ (got .before .before .before .before .before .loop-test .taken)
 
 loop-again : tie.Need-loop-again Inv-loop μ-loop
 loop-again c = let done = c .before .before .before .work .ensures in (done .0, done .1 (c .before .before .if1 .left))

@@ -25,8 +25,10 @@ enum-told-3 c = search needs
 
 page-requires : tie.Need-page-requires
 page-requires c κs =
-    let pre = c .before .before .before .before .before .before .before .before .before .before .before .before .before .before .before .pre in
-    let g = grown-asked _ _ _ _ (pre .0 .0) (c .before .before .before .enum-told3 .given .1) (second-held _ _ _ (c .before .before .if1 .taken)) (pre .1) in ((g .0, pre .0 .1), g .1)
+    let pre = c .before .before .before .before .before .before .before .before .before .before .before .pre in
+    let map = second-held _ _ _ (c .before .before .before .before .before .before .if1 .taken) in
+    let g = grown-asked _ _ _ _ (pre .0) (c .before .before .before .before .before .before .before .enum-told3 .given .1) map (pre .1 .0) in
+    ((g .0, pre .1 .1), g .1)
 
 same-length : tie.Need-same-length
 same-length c = search needs
@@ -35,12 +37,18 @@ same-length-2 : tie.Need-same-length-2
 same-length-2 c = search needs
 
 returns-3 : tie.Need-returns-3
-returns-3 c = grown-listed _ _ _ _ (c .before .before .before .before .before .before .before .before .before .before .before .before .before .before .before .before .before .before .before .before .pre .0 .0) (c .before .before .before .before .before .before .before .before .enum-told3 .given .1) (second-held _ _ _ (c .before .before .before .before .before .before .before .if1 .taken)) (c .before .before .before .before .page .ensures)
+returns-3 c =
+    let stage = c .before .before .before .before .before .before .before .before .before .before .before .before in
+    let pre = stage .before .before .before .before .pre .0 in
+    let map = second-held _ _ _ (c .before .before .before .before .before .before .before .before .before .before .before .if1 .taken) in
+    grown-listed _ _ _ _ pre (stage .enum-told3 .given .1) map (c .before .before .before .before .page .ensures)
 
 page-requires-2 : tie.Need-page-requires-2
 page-requires-2 c κs =
-    let pre = c .before .before .before .before .before .before .before .before .before .before .before .before .before .before .before .pre in
-    let g = grown-asked _ _ _ _ (pre .0 .0) (c .before .before .before .enum-told3 .given .1) (first-held _ _ _ (c .before .before .if1 .left)) (pre .1) in ((g .0, pre .0 .1), g .1)
+    let pre = c .before .before .before .before .before .before .before .before .before .before .before .pre in
+    let map = first-held _ _ _ (c .before .before .before .before .before .before .if1 .left) in
+    let g = grown-asked _ _ _ _ (pre .0) (c .before .before .before .before .before .before .before .enum-told3 .given .1) map (pre .1 .0) in
+    ((g .0, pre .1 .1), g .1)
 
 same-length-3 : tie.Need-same-length-3
 same-length-3 c = search needs
@@ -49,7 +57,11 @@ same-length-4 : tie.Need-same-length-4
 same-length-4 c = search needs
 
 returns-4 : tie.Need-returns-4
-returns-4 c = grown-listed _ _ _ _ (c .before .before .before .before .before .before .before .before .before .before .before .before .before .before .before .before .before .before .before .before .pre .0 .0) (c .before .before .before .before .before .before .before .before .enum-told3 .given .1) (first-held _ _ _ (c .before .before .before .before .before .before .before .if1 .left)) (c .before .before .before .before .page2 .ensures)
+returns-4 c =
+    let stage = c .before .before .before .before .before .before .before .before .before .before .before .before in
+    let pre = stage .before .before .before .before .pre .0 in
+    let map = first-held _ _ _ (c .before .before .before .before .before .before .before .before .before .before .before .if1 .left) in
+    grown-listed _ _ _ _ pre (stage .enum-told3 .given .1) map (c .before .before .before .before .page2 .ensures)
 
 pub list-spec : {M : Type 1} → statement M
 list-spec =

@@ -14,7 +14,9 @@ cast-put-rows : tie.Need-cast-put-rows
 cast-put-rows c = search needs
 
 put-rows-requires : tie.Need-put-rows-requires
-put-rows-requires c κs = moves-room _ _ _ _ _ _ (c .before .before .before .before .before .relocated .ensures) (c .before .before .before .before .before .before .before .before .before .before .before .before .before .before .before .args .out .now) (c .before .before .before .before .before .before .before .before .before .before .before .before .before .before .before .pre .0 .1)
+put-rows-requires c κs =
+    let start = c .before .before .before .before .before .before .before .before .before .before .before .before .before .before .before in
+    moves-room _ _ _ _ _ _ (c .before .before .before .before .before .relocated .ensures) (start .args .out .now) (start .pre .0 .1)
 
 same-length : tie.Need-same-length
 same-length c = search needs

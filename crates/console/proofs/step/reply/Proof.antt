@@ -42,7 +42,8 @@ unfolding shown isList
 returns c =
     let told = c .before .before .put-refused .ensures in
     let answer = c .before .before .before .before .before .answer .given .1 in
-    told-reply (c .before .before .before .before .before .before .before .before .before .args .done) _ _ _ _ _ (ap shown answer) (ap isList answer) (told .0) (told .1)
+    let done = c .before .before .before .before .before .before .before .before .before .args .done in
+    told-reply done _ _ _ _ _ (ap shown answer) (ap isList answer) (told .0) (told .1)
 
 same-length-2 : tie.Need-same-length-2
 same-length-2 c = search needs
@@ -52,7 +53,8 @@ unfolding shown isList
 returns-2 c =
     let told = c .before .before .put-ok .ensures in
     let answer = c .before .before .before .before .before .answer2 .given .1 in
-    told-reply (c .before .before .before .before .before .before .before .before .before .args .done) _ _ _ _ _ (ap shown answer) (ap isList answer) (told .0) (told .1)
+    let done = c .before .before .before .before .before .before .before .before .before .args .done in
+    told-reply done _ _ _ _ _ (ap shown answer) (ap isList answer) (told .0) (told .1)
 
 same-length-3 : tie.Need-same-length-3
 same-length-3 c = search needs
@@ -62,7 +64,8 @@ unfolding shown isList
 returns-3 c =
     let told = c .before .before .put-place .ensures in
     let answer = c .before .before .before .before .before .answer3 .given .1 in
-    told-reply (c .before .before .before .before .before .before .before .before .before .args .done) _ _ _ _ _ (ap shown answer) (ap isList answer) (told .0) (told .1)
+    let done = c .before .before .before .before .before .before .before .before .before .args .done in
+    told-reply done _ _ _ _ _ (ap shown answer) (ap isList answer) (told .0) (told .1)
 
 same-length-4 : tie.Need-same-length-4
 same-length-4 c = search needs
@@ -72,7 +75,8 @@ unfolding shown isList
 returns-4 c =
     let told = c .before .before .put-bucket .ensures in
     let answer = c .before .before .before .before .before .answer4 .given .1 in
-    told-reply (c .before .before .before .before .before .before .before .before .before .args .done) _ _ _ _ _ (ap shown answer) (ap isList answer) (told .0) (told .1)
+    let done = c .before .before .before .before .before .before .before .before .before .args .done in
+    told-reply done _ _ _ _ _ (ap shown answer) (ap isList answer) (told .0) (told .1)
 
 returns-5 : tie.Need-returns-5
 unfolding shown isList
