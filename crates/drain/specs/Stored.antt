@@ -7,6 +7,8 @@ use lib.Seq.{sets}
 use Rattle.model.specs.Table.{Interval, sizes}
 use Rattle.model.specs.Lent.{lent}
 use Rattle.model.specs.Expansion.{drained}
+use Rattle.model.specs.declared.plan.Action.the-variants.{Stay}
+use Rattle.model.specs.declared.plan.Plan.{Plan}
 use Rattle.model.specs.declared.table.Header.{Header}
 use Rattle.count.specs.Given.{Drains}
 
@@ -21,6 +23,10 @@ pub record Stored (o : ℕ) (is : List Interval) (es bs cs es′ bs′ cs′ : L
   pub ends : es′ ≡ sets es o (map (λ i. i .end) is)
   pub blocks : bs′ ≡ sets bs o (map (λ i. i .block) is)
   pub adjustments : cs′ ≡ sets cs o (map (λ i. i .adjustment) is)
+
+-- the plan for an interval that stays, where w buckets have moved before it
+abbrev pub staying : ℕ → Plan
+staying w = record { action = Stay; moved = w }
 
 -- a growth by which some old block is due less, whose intervals have room in the arrays es, bs and cs
 pub record DrainsInto

@@ -13,7 +13,7 @@ ghost use Rattle.model.specs.Table.{interval, sizes};
 ghost use Rattle.model.specs.Expansion.{drained};
 ghost use Rattle.count.specs.Given.{Some, Drains, tableWith};
 ghost use Rattle.count.specs.Made.{made};
-ghost use Rattle.drain.specs.Stored.{Room, Stored, DrainsInto};
+ghost use Rattle.drain.specs.Stored.{Room, Stored, staying, DrainsInto};
 
 // Writes one interval at place o.
 pub fn write_interval(
@@ -71,6 +71,51 @@ fn write_two(
     );
 }
 
+// Writes an interval that stays, from place o on, where `moved` buckets have moved before it: `left` new buckets form an interval
+// of block g behind it. The next place.
+fn write_stay(
+    end: u32,
+    block: u32,
+    adjustment: u32,
+    g: u32,
+    moved: u32,
+    left: u32,
+    o: usize,
+    ends: &mut [u32],
+    blocks: &mut [u32],
+    adjustments: &mut [u32],
+) -> usize
+    requires { ⌜ (block < g) × (moved ≤ end) × (end + left < 2 ^ 32) ⌝ }
+    requires { ⌜
+        Room (o + length (made (staying moved) (interval end block adjustment) g left)) (now ends) (now blocks) (now adjustments)
+        ⌝ }
+    ensures place { λ r. ⌜ r ≡ o + length (made (staying moved) (interval end block adjustment) g left) ⌝ }
+    ensures stored { λ _.
+        ⌜
+        Stored o (made (staying moved) (interval end block adjustment) g left)
+        (now (ends .entry)) (now (blocks .entry)) (now (adjustments .entry))
+        (now (ends .exit)) (now (blocks .exit)) (now (adjustments .exit))
+        ⌝ }
+{
+    if left == 0 {
+        write_interval(end, block, adjustment, o, ends, blocks, adjustments);
+        return o + 1;
+    }
+    write_two(
+        end,
+        block,
+        adjustment,
+        end + left,
+        g,
+        end - moved,
+        o,
+        ends,
+        blocks,
+        adjustments,
+    );
+    o + 2
+}
+
 // Writes what the plan for an old interval makes of it, from place o on: what moves goes to block g. `left` new buckets lengthen
 // what moves, or form an interval of block g behind one that stays. The next place.
 fn write_parts(
@@ -98,25 +143,18 @@ fn write_parts(
     let action = plan.action;
     let reach = end + left;
     match action {
-        Action::Stay => {
-            if left == 0 {
-                write_interval(end, block, adjustment, o, ends, blocks, adjustments);
-                return o + 1;
-            }
-            write_two(
-                end,
-                block,
-                adjustment,
-                reach,
-                g,
-                end - plan.moved,
-                o,
-                ends,
-                blocks,
-                adjustments,
-            );
-            o + 2
-        }
+        Action::Stay => write_stay(
+            end,
+            block,
+            adjustment,
+            g,
+            plan.moved,
+            left,
+            o,
+            ends,
+            blocks,
+            adjustments,
+        ),
         Action::Move { adjustment: shift } => {
             write_interval(reach, g, shift, o, ends, blocks, adjustments);
             o + 1

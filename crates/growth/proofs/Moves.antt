@@ -10,9 +10,16 @@ use Rattle.model.specs.Refusal.{first}
 use Rattle.model.specs.Expansion.{expanded}
 use Rattle.model.specs.Relocations.{rows, page}
 use Rattle.model.specs.Calls.{answer, growthTests, orderTests, relocationsAnswer, bufferAfter}
+use Rattle.model.specs.declared.reply.RelocationsReply.{RelocationsReply}
 use Rattle.model.proofs.Refusals.{first-found, first-after, refused}
 use Rattle.model.proofs.Soundness.{growth-numbered}
 use Rattle.growth.specs.Replies.{movesRefusal, MovesReply}
+
+-- a reply that is another
+pub moves-same
+    : (t : Table) (s : Shape) (q : ℕ) (buffer left : List ℕ) (z w : RelocationsReply) → z ≡ w → MovesReply t s q buffer left w
+    → MovesReply t s q buffer left z
+moves-same t s q buffer left z w e m = record { reply = e ∙ m .reply; lent = m .lent }
 
 module _ (t : Table) (s : Shape) (q : ℕ) (buffer : List ℕ) (r : ℕ) (e : r ≡ first (growthTests t s)) where
   -- refused by rules 1 to 5

@@ -148,6 +148,17 @@ pub fn grown(
     )
 }
 
+// The reply that refuses a move list: its number, and zeros.
+fn refused_list(refusal: u32) -> RelocationsReply
+    ensures { λ r. ⌜ r ≡ record { refusal = refusal; written = 0; total = 0 } ⌝ }
+{
+    RelocationsReply {
+        refusal,
+        written: 0,
+        total: 0,
+    }
+}
+
 // A page of the move list.
 pub fn relocated(
     header: Header,
@@ -169,11 +180,7 @@ pub fn relocated(
 {
     let wrong = plan::growth_refusal(header, tops, ends, blocks, adjustments, buckets, bins);
     if wrong != 0 {
-        return RelocationsReply {
-            refusal: wrong,
-            written: 0,
-            total: 0,
-        };
+        return refused_list(wrong);
     }
     let total = relocations::relocation_count(
         header,
@@ -185,11 +192,7 @@ pub fn relocated(
         bins,
     );
     if total < first {
-        return RelocationsReply {
-            refusal: 9,
-            written: 0,
-            total: 0,
-        };
+        return refused_list(9);
     }
     let written = relocations::write_relocations(
         header,
@@ -200,7 +203,7 @@ pub fn relocated(
         buckets,
         bins,
         first,
-        total,
+        total - first,
         rows,
     );
     RelocationsReply {

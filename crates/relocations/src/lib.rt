@@ -286,7 +286,7 @@ pub fn relocation_count(
     )
 }
 
-// The rows from order number `first` on, as many of the `total` as remain or fit whole; how many were written.
+// The rows from order number `first` on, of which there are `left`, as many as fit whole; how many were written.
 pub fn write_relocations(
     h: Header,
     tops: &[u32],
@@ -296,13 +296,12 @@ pub fn write_relocations(
     buckets: u32,
     bins: u32,
     first: u32,
-    total: u32,
+    left: u32,
     rows: &mut [u32],
 ) -> u32
     requires { ⌜ LentSound h tops ends blocks adjustments ⌝ }
     requires { ⌜ firstOf (growthTests (tableNow h tops ends blocks adjustments) (sizes buckets bins)) ≡ 0 ⌝ }
-    requires { ⌜ total ≡ length (movesOf (tableNow h tops ends blocks adjustments) (sizes buckets bins)) ⌝ }
-    requires { ⌜ first ≤ total ⌝ }
+    requires { ⌜ first + left ≡ length (movesOf (tableNow h tops ends blocks adjustments) (sizes buckets bins)) ⌝ }
     ensures { λ r.
         ⌜
         r
@@ -316,13 +315,12 @@ pub fn write_relocations(
         (now (rows .entry))
         ⌝ }
 {
-    if first == total {
+    if left == 0 {
         return 0;
     }
     let mut dues = [0u32; 65];
     dues_after(h, tops, ends, blocks, adjustments, buckets, bins, &mut dues);
     write_moved(h, tops, ends, blocks, adjustments, bins, &dues, first, rows);
-    let left = total - first;
     let room = rows.len() / 5;
     if left as usize <= room {
         return left;

@@ -1,7 +1,6 @@
 -- `relocations::write_relocations` meets its contract: the page, of the length that it has. Assumes nothing.
-use Prim.Native.Nat.{_/_}
-use mathlib.Core.Path.{_∙_, ap}
-use native.Mathlib.Nat.{le-trans, le-of-eq}
+use Prim.Native.Nat.{_+_, _-_, _/_}
+use mathlib.Core.Path.{_≡_, _∙_, ap}
 use native.Mathlib.Omega.{arith}
 use Rattle.model.specs.Table.{sizes}
 use Rattle.model.specs.Lent.{lent}
@@ -15,7 +14,7 @@ use Rattle.relocations.proofs.write_relocations.Tie as tie
 returns : tie.Need-returns
 returns c =
     let start = c .before .before .before .before .before .before in
-    page-past (start .args .first) _ _ (omega (arith, c .if1 .taken, start .pre .1 .1 .0))
+    page-past (start .args .first) _ _ (omega (arith, c .if1 .taken, start .pre .1 .1))
 
 dues-after-requires : tie.Need-dues-after-requires
 dues-after-requires c κs = search needs
@@ -30,7 +29,7 @@ moves
     (c .before .before .dues-after .last .1 .1 .1 .1 .1 .1 .1 .0)
 moves c =
     let start = c .before .before .before .before .before .before .before .before .before .before in
-    let (sound, (asked, (all, most))) = start .pre in
+    let (sound, (asked, all)) = start .pre in
     let other = c .before .before .before .before .if1 .left in
     let falls = rows-falls (start .args .h) _ _ sound asked (start .args .first) (omega arith) in
     record { asked = asked; falls = falls; after = c .before .before .dues-after .ensures }
@@ -38,21 +37,16 @@ moves c =
 write-moved-requires : tie.Need-write-moved-requires
 write-moved-requires c κs = let start = c .before .before .before .before .before .before .before .before .before .before in (start .pre .0, (start .args .buckets, moves c))
 
-sub-left : tie.Need-sub-left
-sub-left c = search needs
-
-cast-if2 : tie.Need-cast-if2
-cast-if2 c = search needs
-
 same-length : tie.Need-same-length
 same-length c = search needs
 
 returns-2 : tie.Need-returns-2
 returns-2 c =
     let start = c .before .before .before .before .before .before .before .before .before .before .before .before .before .before in
-    let written = c .before .before .before .write-moved in (
-      page-left (start .args .first) _ _ _ (start .pre .1 .1 .0)
-          (le-trans (c .if2 .taken) (le-of-eq (ap (λ n. n / 5) (written .kept .1 .1 .1 .1 .1 .1 .1 .1 .0)))),
+    let written = c .before .before .before .write-moved in
+    let rest : start .args .left ≡ start .args .first + start .args .left - start .args .first = omega arith in
+    let room = ap (λ n. n / 5) (written .kept .1 .1 .1 .1 .1 .1 .1 .1 .0) in (
+      rest ∙ page-left (start .args .first) _ _ _ (start .pre .1 .1) (omega (arith, room, c .if2 .taken)),
       written .ensures (start .args .buckets) (moves (c .before .before .before .before)),
     )
 
@@ -67,7 +61,7 @@ returns-3 c =
     let start = c .before .before .before .before .before .before .before .before .before .before .before .before .before .before in
     let written = c .before .before .before .write-moved in
     let room = ap (λ n. n / 5) (written .kept .1 .1 .1 .1 .1 .1 .1 .1 .0) in (
-      room ∙ page-room (start .args .first) _ _ _ (start .pre .1 .1 .0) (rw room at (c .if2 .left)),
+      room ∙ page-room (start .args .first) _ _ _ (start .pre .1 .1) (omega (arith, room, c .if2 .left)),
       written .ensures (start .args .buckets) (moves (c .before .before .before .before)),
     )
 
@@ -78,8 +72,6 @@ write-relocations-spec =
     returns
     dues-after-requires
     write-moved-requires
-    sub-left
-    cast-if2
     same-length
     returns-2
     cast-result
