@@ -115,6 +115,7 @@ struct map {
 	uint32_t ends[IRR_MAX_INTERVALS];
 	uint32_t blocks[IRR_MAX_INTERVALS];
 	uint32_t adjustments[IRR_MAX_INTERVALS];
+	struct share share;
 };
 
 static struct map maps[2];
@@ -125,7 +126,7 @@ static bool has_before;
 
 static inline struct table to_read(const struct map *m)
 {
-	return (struct table){m->header, m->tops, m->ends, m->blocks, m->adjustments};
+	return (struct table){m->header, m->tops, m->ends, m->blocks, m->adjustments, m->share};
 }
 
 static inline struct new_table to_write(struct map *m)
@@ -145,6 +146,7 @@ static void fresh(uint32_t buckets, uint32_t bins)
 		return;
 	}
 	map->header = reply.header;
+	map->share = share_of(buckets, bins);
 	has_map = true;
 	has_before = false;
 	reply_two("ok ", 0, 1);
@@ -156,7 +158,11 @@ static void grow(uint32_t buckets, uint32_t bins)
 	struct map *old = map;
 	struct table t = to_read(old);
 	struct new_table new = to_write(before);
-	struct irr_table_reply reply = grown(&t, buckets, bins, &new);
+	uint32_t had[IRR_MAX_BLOCKS];
+
+	due_sizes(&t, t.share, had);
+
+	struct irr_table_reply reply = grown(&t, had, buckets, bins, &new);
 
 	if (reply.refusal != 0) {
 		refuse(reply.refusal);
@@ -164,6 +170,7 @@ static void grow(uint32_t buckets, uint32_t bins)
 	}
 	map = before;
 	map->header = reply.header;
+	map->share = share_of(buckets, bins);
 	before = old;
 	has_before = true;
 	reply_two("ok ", reply.moved, reply.header.interval_count);
@@ -205,7 +212,7 @@ static void moves(void)
 	uint32_t new_bin = new_first, new_position = 0;
 	uint32_t start = 0;
 
-	due_sizes(&old, now.header.buckets, new_top, due);
+	due_sizes(&old, now.share, due);
 	for (uint32_t i = 0; i < old.header.interval_count; i++) {
 		uint32_t end = old.ends[i];
 		uint32_t cut = cut_of(&old, due, i, start);
