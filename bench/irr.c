@@ -124,18 +124,18 @@ static __attribute__((noinline, cold)) uint32_t adjustment_refusal(const struct 
 	return holdings_wrong(t->header, t->share, t->tops, sums) ? 15 : 16;
 }
 
-/* 15 and 16, or 0, of a table that passes 12 to 14; then `sums` is what each block holds.
- * Where an interval's adjustment is right, its block holds before it the start less the
- * adjustment, and then the end less the adjustment: no turn waits for the sum of the turn
- * before it. */
-static inline uint32_t sums_refusal(const struct table *t, uint32_t sums[SUMS])
+/* 15 and 16, or 0, of a table that passes 12 to 14. Where an interval's adjustment is right,
+ * its block holds before it the start less the adjustment, and then the end less the
+ * adjustment: no turn waits for the sum of the turn before it. */
+static inline uint32_t sums_refusal(const struct table *t)
 {
+	uint32_t sums[SUMS];
 	const uint32_t *ends = t->ends, *blocks = t->blocks, *adjustments = t->adjustments;
 	const uint32_t *stop = ends + t->header.interval_count;
 	uint32_t start = 0, wrong = 0;
 
 	clear(sums, t->header.block_count);
-#pragma GCC unroll 8
+#pragma GCC unroll 4
 	for (; ends < stop; ends++, blocks++, adjustments++) {
 		uint32_t end = *ends, block = *blocks, adjustment = *adjustments;
 
@@ -148,10 +148,9 @@ static inline uint32_t sums_refusal(const struct table *t, uint32_t sums[SUMS])
 	return holdings_wrong(t->header, t->share, t->tops, sums) ? 15 : 0;
 }
 
-/* The refusal of a lent table: 11 to 16, or 0. Then its share is known, and `sums` is what
- * each block holds. */
+/* The refusal of a lent table: 11 to 16, or 0. Then its share is known. */
 static uint32_t check(struct table *t, size_t tops_length, size_t ends_length,
-		      size_t blocks_length, size_t adjustments_length, uint32_t sums[SUMS])
+		      size_t blocks_length, size_t adjustments_length)
 {
 	struct irr_header h = t->header;
 	uint32_t refusal;
@@ -163,7 +162,7 @@ static uint32_t check(struct table *t, size_t tops_length, size_t ends_length,
 	if (refusal != 0)
 		return refusal;
 	t->share = share_of(h.buckets, bins_of(t));
-	return sums_refusal(t, sums);
+	return sums_refusal(t);
 }
 
 /* 21: less room than any new table may need. */
@@ -258,17 +257,16 @@ plain_expand(struct irr_header header,
 	     uint32_t *new_adjustments, size_t new_adjustments_length)
 {
 	struct table t = {header, tops, ends, blocks, adjustments, {0, 0}};
-	uint32_t sums[SUMS];
 	struct new_table new = {new_tops, new_ends, new_blocks, new_adjustments, 0};
 	uint32_t refusal;
 
 	if (room_short(new_tops_length, new_ends_length, new_blocks_length,
 		       new_adjustments_length))
 		return refused_table(21);
-	refusal = check(&t, tops_length, ends_length, blocks_length, adjustments_length, sums);
+	refusal = check(&t, tops_length, ends_length, blocks_length, adjustments_length);
 	if (refusal != 0)
 		return refused_table(refusal);
-	return grown(&t, sums, buckets, bins, &new);
+	return grown(&t, buckets, bins, &new);
 }
 
 /* As place_reply. */
@@ -293,9 +291,7 @@ plain_relocations(struct irr_header header,
 		  uint32_t *rows, size_t rows_length)
 {
 	struct table t = {header, tops, ends, blocks, adjustments, {0, 0}};
-	uint32_t sums[SUMS];
-	uint32_t refusal = check(&t, tops_length, ends_length, blocks_length, adjustments_length,
-				 sums);
+	uint32_t refusal = check(&t, tops_length, ends_length, blocks_length, adjustments_length);
 	uint32_t due[IRR_MAX_BLOCKS];
 	size_t room = rows_length / IRR_ROW;
 
@@ -323,9 +319,7 @@ plain_place(struct irr_header header,
 	    const uint32_t *adjustments, size_t adjustments_length, uint32_t bucket)
 {
 	struct table t = {header, tops, ends, blocks, adjustments, {0, 0}};
-	uint32_t sums[SUMS];
-	uint32_t refusal = check(&t, tops_length, ends_length, blocks_length, adjustments_length,
-				 sums);
+	uint32_t refusal = check(&t, tops_length, ends_length, blocks_length, adjustments_length);
 
 	if (refusal != 0)
 		return place_reply(refusal, 0, 0);
@@ -340,9 +334,7 @@ plain_find(struct irr_header header,
 	   uint32_t bin, uint32_t position)
 {
 	struct table t = {header, tops, ends, blocks, adjustments, {0, 0}};
-	uint32_t sums[SUMS];
-	uint32_t refusal = check(&t, tops_length, ends_length, blocks_length, adjustments_length,
-				 sums);
+	uint32_t refusal = check(&t, tops_length, ends_length, blocks_length, adjustments_length);
 
 	if (refusal != 0)
 		return (struct irr_find_reply){.refusal = refusal};
@@ -357,9 +349,7 @@ plain_bin_size(struct irr_header header,
 	       const uint32_t *adjustments, size_t adjustments_length, uint32_t bin)
 {
 	struct table t = {header, tops, ends, blocks, adjustments, {0, 0}};
-	uint32_t sums[SUMS];
-	uint32_t refusal = check(&t, tops_length, ends_length, blocks_length, adjustments_length,
-				 sums);
+	uint32_t refusal = check(&t, tops_length, ends_length, blocks_length, adjustments_length);
 
 	if (refusal != 0)
 		return (struct irr_bin_size_reply){.refusal = refusal};
@@ -398,9 +388,7 @@ plain_save(struct irr_header header,
 	   uint8_t *buffer, size_t buffer_length)
 {
 	struct table t = {header, tops, ends, blocks, adjustments, {0, 0}};
-	uint32_t sums[SUMS];
-	uint32_t refusal = check(&t, tops_length, ends_length, blocks_length, adjustments_length,
-				 sums);
+	uint32_t refusal = check(&t, tops_length, ends_length, blocks_length, adjustments_length);
 
 	if (refusal != 0)
 		return (struct irr_save_reply){.refusal = refusal};

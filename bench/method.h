@@ -276,13 +276,12 @@ static inline void fill(const struct table *old, uint32_t buckets, uint32_t bins
 		add_interval(new, buckets, old->header.block_count, next);
 }
 
-/* A growth, written to arrays with room for any table. `had` is what each block holds. */
-static inline struct irr_table_reply grown(const struct table *old, const uint32_t had[],
-					   uint32_t buckets, uint32_t bins,
-					   struct new_table *new)
+/* A growth, written to arrays with room for any table. */
+static inline struct irr_table_reply grown(const struct table *old, uint32_t buckets,
+					   uint32_t bins, struct new_table *new)
 {
 	struct irr_header h = old->header;
-	uint32_t due[IRR_MAX_BLOCKS], drained[IRR_MAX_INTERVALS];
+	uint32_t had[IRR_MAX_BLOCKS], due[IRR_MAX_BLOCKS], drained[IRR_MAX_INTERVALS];
 	uint32_t drained_count = 0, count;
 	uint32_t refusal = growth_refusal(old, buckets, bins);
 
@@ -297,6 +296,7 @@ static inline struct irr_table_reply grown(const struct table *old, const uint32
 		drained_count = list_drained(old, due, drained);
 		count = count_drained(old, buckets, due, drained, drained_count);
 	} else {
+		due_sizes(old, old->share, had);
 		count = count_filled(old, bins, had, due);
 	}
 	if (count > IRR_MAX_INTERVALS)

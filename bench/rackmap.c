@@ -158,11 +158,7 @@ static void grow(uint32_t buckets, uint32_t bins)
 	struct map *old = map;
 	struct table t = to_read(old);
 	struct new_table new = to_write(before);
-	uint32_t had[IRR_MAX_BLOCKS];
-
-	due_sizes(&t, t.share, had);
-
-	struct irr_table_reply reply = grown(&t, had, buckets, bins, &new);
+	struct irr_table_reply reply = grown(&t, buckets, bins, &new);
 
 	if (reply.refusal != 0) {
 		refuse(reply.refusal);
