@@ -55,6 +55,24 @@ static const struct calls plain = {
 	plain_bin_size, plain_room, plain_save, plain_load,
 };
 
+/* In the place of `bin_size`, a sum over the lent numbers: the least that reading them costs. */
+static struct irr_bin_size_reply
+sum_of_table(struct irr_header h, const uint32_t *tops, size_t tops_length,
+	     const uint32_t *ends, size_t ends_length, const uint32_t *blocks, size_t blocks_length,
+	     const uint32_t *adjustments, size_t adjustments_length, uint32_t bin)
+{
+	uint32_t sum = bin;
+
+	(void)tops_length, (void)ends_length, (void)blocks_length, (void)adjustments_length;
+	for (uint32_t j = 0; j < h.block_count; j++)
+		sum += tops[j];
+	for (uint32_t i = 0; i < h.interval_count; i++)
+		sum += ends[i] + blocks[i] + adjustments[i];
+	return (struct irr_bin_size_reply){0, sum};
+}
+
+static const struct calls summing = {.bin_size = sum_of_table};
+
 struct map {
 	struct irr_header header;
 	uint32_t tops[MAX_BLOCKS], ends[MAX_INTERVALS], blocks[MAX_INTERVALS];
@@ -394,7 +412,7 @@ struct work {
 	uint8_t bytes[MAX_SAVED];
 	uint32_t x[ARGUMENTS], y[ARGUMENTS], z;
 	size_t times;           /* calls in a round */
-	double *seconds[2];     /* of each round, proved and plain */
+	double *seconds[3];     /* of each round: proved, plain, and the sum for bin_size */
 	double *ratios;         /* proved to plain, of each round */
 };
 
@@ -568,8 +586,8 @@ static void measure(struct work *works, size_t count, int rounds)
 
 	for (size_t i = 0; i < count; i++) {
 		works[i].times = calls_for(&works[i]);
-		works[i].seconds[0] = room_for(rounds);
-		works[i].seconds[1] = room_for(rounds);
+		for (int which = 0; which < 3; which++)
+			works[i].seconds[which] = room_for(rounds);
 		works[i].ratios = room_for(rounds);
 	}
 	for (int round = 0; round < rounds; round++) {
@@ -581,12 +599,14 @@ static void measure(struct work *works, size_t count, int rounds)
 
 				w->seconds[which][round] = seconds(both[which], w, w->times, round);
 			}
+			if (w->call == BIN_SIZE)
+				w->seconds[2][round] = seconds(&summing, w, w->times, round);
 			w->ratios[round] = w->seconds[0][round] / w->seconds[1][round];
 		}
 	}
 	for (size_t i = 0; i < count; i++) {
-		qsort(works[i].seconds[0], (size_t)rounds, sizeof(double), ascending);
-		qsort(works[i].seconds[1], (size_t)rounds, sizeof(double), ascending);
+		for (int which = 0; which < (works[i].call == BIN_SIZE ? 3 : 2); which++)
+			qsort(works[i].seconds[which], (size_t)rounds, sizeof(double), ascending);
 		qsort(works[i].ratios, (size_t)rounds, sizeof(double), ascending);
 	}
 }
@@ -774,6 +794,29 @@ static void print_table(const char *title, const struct work *from, const struct
 	}
 }
 
+/* What the check reads: all numbers of the table, 12 bytes an interval and 4 a block.
+ * `bin_size` does little else. */
+static void print_bytes(void)
+{
+	static const char *const what[3] = {"`bin_size`, proved", "`bin_size`, C", "their sum in C"};
+	const struct work *w = works;
+
+	while (w->call != BIN_SIZE || w->map != &maps[LARGEST])
+		w++;
+
+	double bytes = 12.0 * w->map->header.interval_count + 4.0 * w->map->header.block_count;
+
+	printf("\nThe %s bytes of the largest table, bytes read a second:\n\n", grouped(bytes));
+	printf("| | bytes a second | time / time of the sum |\n|---|---:|---:|\n");
+	for (int which = 0; which < 3; which++) {
+		double taken = quartile(w->seconds[which], 2);
+
+		printf("| %s | %s | %.2f |\n", what[which],
+		       grouped(bytes * (double)w->times / taken),
+		       taken / quartile(w->seconds[2], 2));
+	}
+}
+
 static void print_slower(void)
 {
 	bool slower = false;
@@ -817,6 +860,7 @@ int main(int argc, char **argv)
 	print_table("Calls a second, rows a second for `relocations`, the median of the rounds:", works, works + calls_end);
 	print_table("The same by the number of intervals:", works + calls_end,
 		    works + work_count);
+	print_bytes();
 	print_slower();
 	return 0;
 }

@@ -127,7 +127,7 @@ static __attribute__((noinline, cold)) uint32_t adjustment_refusal(const struct 
 /* 15 and 16, or 0, of a table that passes 12 to 14. Where an interval's adjustment is right,
  * its block holds before it the start less the adjustment, and then the end less the
  * adjustment: no turn waits for the sum of the turn before it. */
-static inline uint32_t sums_refusal(const struct table *t)
+static inline __attribute__((always_inline)) uint32_t sums_refusal(const struct table *t)
 {
 	uint32_t sums[SUMS];
 	const uint32_t *ends = t->ends, *blocks = t->blocks, *adjustments = t->adjustments;
