@@ -266,7 +266,7 @@ plain_expand(struct irr_header header,
 	refusal = check(&t, tops_length, ends_length, blocks_length, adjustments_length);
 	if (refusal != 0)
 		return refused_table(refusal);
-	return grown(&t, buckets, bins, &new);
+	return grown(t, buckets, bins, new);
 }
 
 /* As place_reply. */

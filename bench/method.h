@@ -207,6 +207,21 @@ static inline void keep_intervals(const struct table *old, uint32_t from, uint32
 	new->intervals += to - from;
 }
 
+/* The same where at least three more intervals of the old map follow, each of which adds one
+ * or two: by four at a time, the last of them past the end perhaps. */
+static inline void keep_by_fours(const struct table *old, uint32_t from, uint32_t to,
+				 struct new_table *new)
+{
+	uint32_t o = new->intervals;
+
+	for (uint32_t i = from; i < to; i += 4, o += 4) {
+		memcpy(new->ends + o, old->ends + i, 4 * sizeof *old->ends);
+		memcpy(new->blocks + o, old->blocks + i, 4 * sizeof *old->blocks);
+		memcpy(new->adjustments + o, old->adjustments + i, 4 * sizeof *old->adjustments);
+	}
+	new->intervals += to - from;
+}
+
 /* Some old block is due less than it has: what is above its due goes to the new block,
  * and so do the new buckets. */
 static inline void drain(const struct table *old, uint32_t buckets, const uint32_t due[],
@@ -221,7 +236,9 @@ static inline void drain(const struct table *old, uint32_t buckets, const uint32
 		uint32_t start = start_of(old, i);
 		uint32_t cut = cut_of(old, due, i, start);
 
-		if (next < i)
+		if (i + 3 <= h.interval_count)
+			keep_by_fours(old, next, i, new);
+		else if (next < i)
 			keep_intervals(old, next, i, new);
 		/* What stays is written in any case: the part that moves is written over it
 		 * where there is none. */
@@ -276,10 +293,13 @@ static inline void fill(const struct table *old, uint32_t buckets, uint32_t bins
 		add_interval(new, buckets, old->header.block_count, next);
 }
 
-/* A growth, written to arrays with room for any table. */
-static inline struct irr_table_reply grown(const struct table *old, uint32_t buckets,
-					   uint32_t bins, struct new_table *new)
+/* A growth, written to arrays with room for any table. Both tables are lent as copies, so
+ * that no number that is stored can change where their arrays are. */
+static inline struct irr_table_reply grown(struct table lent, uint32_t buckets, uint32_t bins,
+					   struct new_table lent_new)
 {
+	const struct table *old = &lent;
+	struct new_table *new = &lent_new;
 	struct irr_header h = old->header;
 	uint32_t had[IRR_MAX_BLOCKS], due[IRR_MAX_BLOCKS], drained[IRR_MAX_INTERVALS];
 	uint32_t drained_count = 0, count;

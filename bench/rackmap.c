@@ -156,9 +156,7 @@ static void fresh(uint32_t buckets, uint32_t bins)
 static void grow(uint32_t buckets, uint32_t bins)
 {
 	struct map *old = map;
-	struct table t = to_read(old);
-	struct new_table new = to_write(before);
-	struct irr_table_reply reply = grown(&t, buckets, bins, &new);
+	struct irr_table_reply reply = grown(to_read(old), buckets, bins, to_write(before));
 
 	if (reply.refusal != 0) {
 		refuse(reply.refusal);
