@@ -201,6 +201,10 @@ static inline void keep_intervals(const struct table *old, uint32_t from, uint32
 {
 	size_t bytes = (to - from) * sizeof *old->ends;
 
+	if (to - from == 1) { /* a fresh map: no call is worth it */
+		add_interval(new, old->ends[from], old->blocks[from], old->adjustments[from]);
+		return;
+	}
 	memcpy(new->ends + new->intervals, old->ends + from, bytes);
 	memcpy(new->blocks + new->intervals, old->blocks + from, bytes);
 	memcpy(new->adjustments + new->intervals, old->adjustments + from, bytes);
@@ -295,8 +299,8 @@ static inline void fill(const struct table *old, uint32_t buckets, uint32_t bins
 
 /* A growth, written to arrays with room for any table. Both tables are lent as copies, so
  * that no number that is stored can change where their arrays are. */
-static inline struct irr_table_reply grown(struct table lent, uint32_t buckets, uint32_t bins,
-					   struct new_table lent_new)
+static inline __attribute__((always_inline)) struct irr_table_reply
+grown(struct table lent, uint32_t buckets, uint32_t bins, struct new_table lent_new)
 {
 	const struct table *old = &lent;
 	struct new_table *new = &lent_new;
