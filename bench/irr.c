@@ -29,13 +29,13 @@ static inline int32_t signed_number(const void *numbers, size_t i)
 
 /* ----------------------------------------------------------------- refusals */
 
-/* The tests gather what is wrong without a branch on what they read: the compiler makes
- * vector code of them. */
+/* The tests of arrays gather what is wrong without a branch on what they read: the compiler
+ * makes vector code of them. */
 
 /* 11: B, G or k outside its limits. */
 static inline bool header_wrong(struct irr_header h)
 {
-	return outside(IRR_MAX_BUCKETS, h.buckets) | outside(IRR_MAX_BLOCKS, h.block_count) |
+	return outside(IRR_MAX_BUCKETS, h.buckets) || outside(IRR_MAX_BLOCKS, h.block_count) ||
 	       outside(IRR_MAX_INTERVALS, h.interval_count);
 }
 
@@ -155,8 +155,8 @@ static uint32_t check(struct table *t, size_t tops_length, size_t ends_length,
 	struct irr_header h = t->header;
 	uint32_t refusal;
 
-	if (header_wrong(h) | (tops_length < h.block_count) | (ends_length < h.interval_count) |
-	    (blocks_length < h.interval_count) | (adjustments_length < h.interval_count))
+	if (header_wrong(h) || tops_length < h.block_count || ends_length < h.interval_count ||
+	    blocks_length < h.interval_count || adjustments_length < h.interval_count)
 		return 11;
 	refusal = order_refusal(h, t->tops, t->ends, t->blocks);
 	if (refusal != 0)
@@ -169,11 +169,25 @@ static uint32_t check(struct table *t, size_t tops_length, size_t ends_length,
 static bool room_short(size_t tops_length, size_t ends_length, size_t blocks_length,
 		       size_t adjustments_length)
 {
-	return (tops_length < IRR_MAX_BLOCKS) | (ends_length < IRR_MAX_INTERVALS) |
-	       (blocks_length < IRR_MAX_INTERVALS) | (adjustments_length < IRR_MAX_INTERVALS);
+	return tops_length < IRR_MAX_BLOCKS || ends_length < IRR_MAX_INTERVALS ||
+	       blocks_length < IRR_MAX_INTERVALS || adjustments_length < IRR_MAX_INTERVALS;
 }
 
 /* ---------------------------------------------------------------- move list */
+
+/* Writes so many rows in which neither bin is the last of its block, but for the last row. */
+static inline uint32_t *write_run(uint32_t *restrict row, uint32_t count, uint64_t bucket_bin,
+				  uint32_t position, uint64_t place)
+{
+	for (; count > 0; count--, row += IRR_ROW) {
+		memcpy(row, &bucket_bin, sizeof bucket_bin);
+		row[2] = position;
+		memcpy(row + 3, &place, sizeof place);
+		bucket_bin += pair(1, 1);
+		place++;
+	}
+	return row;
+}
 
 /* Writes the rows of the buckets from `bucket` on, `count` of them, which interval i of the
  * old map holds. `order` is the first bucket's order number, and so its rank in the new
@@ -192,6 +206,22 @@ static void write_rows(const struct table *old, uint32_t i, uint32_t bucket, uin
 	uint64_t place = pair(new_first + order % new_width, order / new_width);
 	uint64_t new_wrap = pair(1, 1) - new_width;
 
+	/* In wide blocks, whole runs up to the next last bin. */
+	while (width >= 8 && new_width >= 8 && count > 0) {
+		uint32_t run = min(last - (uint32_t)(bucket_bin >> 32), new_last - (uint32_t)place);
+
+		run = min(run + 1, count);
+		row = write_run(row, run, bucket_bin, position, place);
+		count -= run;
+		bucket_bin += pair(run, run);
+		place += run;
+		if (bucket_bin >= last_bin + pair(0, 1)) {
+			bucket_bin -= pair(0, width);
+			position++;
+		}
+		if ((uint32_t)place > new_last)
+			place += pair(0, 1) - new_width;
+	}
 	for (uint32_t *end = row + (size_t)IRR_ROW * count; row < end; row += IRR_ROW) {
 		uint64_t next = bucket_bin + step, next_wrapped = bucket_bin + wrap;
 		uint64_t next_place = place + 1, next_place_wrapped = place + new_wrap;

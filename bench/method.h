@@ -326,7 +326,10 @@ grown(struct table lent, uint32_t buckets, uint32_t bins, struct new_table lent_
 	if (count > IRR_MAX_INTERVALS)
 		return refused_table(8);
 
-	memcpy(new->tops, old->tops, h.block_count * sizeof *old->tops);
+	if (h.block_count == 1) /* no call is worth it */
+		new->tops[0] = old->tops[0];
+	else
+		memcpy(new->tops, old->tops, h.block_count * sizeof *old->tops);
 	if (bins > bins_of(old))
 		new->tops[h.block_count] = bins;
 	if (most < h.buckets)
