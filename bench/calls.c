@@ -1,10 +1,10 @@
 /* Compares the proved calls (irr_...) with those by hand in irr.c (plain_...): first that
  * both answer the same, then how fast they are.
  *
- *   calls [runs]
+ *   calls [rounds]
  *
- * Each measurement is the best of 21 runs unless another number is given; the runs of both
- * take turns. Ends with 1 if an answer differs, with 2 if it can't compare.
+ * A round measures both one right after the other; there are 101 unless another number is
+ * given. Ends with 1 if an answer differs, with 2 if it can't compare.
  */
 #include "plain.h"
 
@@ -54,6 +54,24 @@ static const struct calls plain = {
 	plain_initial, plain_expand, plain_relocations, plain_place, plain_find,
 	plain_bin_size, plain_room, plain_save, plain_load,
 };
+
+/* In the place of `bin_size`, a sum over the lent numbers: the least that reading them costs. */
+static struct irr_bin_size_reply
+sum_of_table(struct irr_header h, const uint32_t *tops, size_t tops_length,
+	     const uint32_t *ends, size_t ends_length, const uint32_t *blocks, size_t blocks_length,
+	     const uint32_t *adjustments, size_t adjustments_length, uint32_t bin)
+{
+	uint32_t sum = bin;
+
+	(void)tops_length, (void)ends_length, (void)blocks_length, (void)adjustments_length;
+	for (uint32_t j = 0; j < h.block_count; j++)
+		sum += tops[j];
+	for (uint32_t i = 0; i < h.interval_count; i++)
+		sum += ends[i] + blocks[i] + adjustments[i];
+	return (struct irr_bin_size_reply){0, sum};
+}
+
+static const struct calls summing = {.bin_size = sum_of_table};
 
 struct map {
 	struct irr_header header;
@@ -393,8 +411,9 @@ struct work {
 	size_t bytes_length;
 	uint8_t bytes[MAX_SAVED];
 	uint32_t x[ARGUMENTS], y[ARGUMENTS], z;
-	size_t times;           /* calls in a run */
-	double best[2];         /* seconds of the best run, proved and plain */
+	size_t times;           /* calls in a round */
+	double *seconds[3];     /* of each round: proved, plain, and the sum for bin_size */
+	double *ratios;         /* proved to plain, of each round */
 };
 
 /* What the measured calls write. */
@@ -496,12 +515,12 @@ static uint32_t (*const loops[CALL_COUNT])(const struct calls *, const struct wo
 	bin_size_loop, room_loop, save_loop, load_loop,
 };
 
-/* Seconds of processor time that so many calls take. Each turn has its frames elsewhere on
+/* Seconds of processor time that so many calls take. Each round has its frames elsewhere on
  * the stack: where they lie decides some nanoseconds of a short call. */
-static double seconds(const struct calls *c, const struct work *w, size_t times, int turn)
+static double seconds(const struct calls *c, const struct work *w, size_t times, int round)
 {
 	static volatile uint32_t sink;
-	volatile char gap[16 + 16 * (turn / 2 % 16)];
+	volatile char gap[16 + 16 * (round % 16)];
 	struct timespec from, to;
 
 	gap[0] = 0;
@@ -513,15 +532,15 @@ static double seconds(const struct calls *c, const struct work *w, size_t times,
 	return (double)(to.tv_sec - from.tv_sec) + 1e-9 * (double)(to.tv_nsec - from.tv_nsec);
 }
 
-/* So many calls that the plain ones take about 20 ms. */
+/* So many calls that the plain ones take about 5 ms. */
 static size_t calls_for(const struct work *w)
 {
 	size_t times = ARGUMENTS / 4;
 	double taken;
 
-	while ((taken = seconds(&plain, w, times, 0)) < 0.005)
+	while ((taken = seconds(&plain, w, times, 0)) < 0.002)
 		times *= 2;
-	return (size_t)(0.020 * (double)times / taken) + 1;
+	return (size_t)(0.005 * (double)times / taken) + 1;
 }
 
 /* A number with a comma before every three digits. */
@@ -542,25 +561,53 @@ static const char *grouped(double value)
 	return text;
 }
 
-/* Measures all works, the calls of both in turn. A run goes through all works before the
- * next, so that other load on the machine spoils few runs of a work. */
-static void measure(struct work *works, size_t count, int runs)
+static int ascending(const void *a, const void *b)
+{
+	double x = *(const double *)a, y = *(const double *)b;
+
+	return x < y ? -1 : x > y;
+}
+
+static double *room_for(int rounds)
+{
+	double *xs = malloc((size_t)rounds * sizeof *xs);
+
+	if (xs == NULL)
+		fail("no memory", 2);
+	return xs;
+}
+
+/* Measures all works, the calls of both one right after the other, now these and now those
+ * first. A round goes through all works before the next, so that other load on the machine
+ * spoils few rounds of a work. Then sorts what was measured. */
+static void measure(struct work *works, size_t count, int rounds)
 {
 	const struct calls *both[2] = {&proved, &plain};
 
 	for (size_t i = 0; i < count; i++) {
 		works[i].times = calls_for(&works[i]);
-		works[i].best[0] = works[i].best[1] = 1e9;
+		for (int which = 0; which < 3; which++)
+			works[i].seconds[which] = room_for(rounds);
+		works[i].ratios = room_for(rounds);
 	}
-	for (int turn = 0; turn < 2 * runs; turn++) {
+	for (int round = 0; round < rounds; round++) {
 		for (size_t i = 0; i < count; i++) {
 			struct work *w = &works[i];
-			int which = (turn + (int)i) % 2;
-			double taken = seconds(both[which], w, w->times, turn);
 
-			if (taken < w->best[which])
-				w->best[which] = taken;
+			for (int turn = 0; turn < 2; turn++) {
+				int which = (round + turn) % 2;
+
+				w->seconds[which][round] = seconds(both[which], w, w->times, round);
+			}
+			if (w->call == BIN_SIZE)
+				w->seconds[2][round] = seconds(&summing, w, w->times, round);
+			w->ratios[round] = w->seconds[0][round] / w->seconds[1][round];
 		}
+	}
+	for (size_t i = 0; i < count; i++) {
+		for (int which = 0; which < (works[i].call == BIN_SIZE ? 3 : 2); which++)
+			qsort(works[i].seconds[which], (size_t)rounds, sizeof(double), ascending);
+		qsort(works[i].ratios, (size_t)rounds, sizeof(double), ascending);
 	}
 }
 
@@ -715,9 +762,12 @@ static void add_lengths(void)
 
 /* --------------------------------------------------------------------- main */
 
-static double ratio(const struct work *w)
+static int rounds = 101;
+
+/* The value in the middle of those measured, or a quarter before or behind it. */
+static double quartile(const double *sorted, int quarters)
 {
-	return w->best[0] / w->best[1];
+	return sorted[(rounds - 1) * quarters / 4];
 }
 
 /* What the words for the tables mean. */
@@ -732,13 +782,38 @@ static void print_histories(void)
 
 static void print_table(const char *title, const struct work *from, const struct work *to)
 {
-	printf("\n%s\n\n| call | table | proved | C | proved time / C time |\n", title);
-	printf("|---|---|---:|---:|---:|\n");
+	printf("\n%s\n\n| call | table | proved | C | proved time / C time | quartiles |\n", title);
+	printf("|---|---|---:|---:|---:|---:|\n");
 	for (const struct work *w = from; w < to; w++) {
 		double units = (double)w->times * (w->call == RELOCATIONS ? w->rows : 1);
 
-		printf("| `%s` | %s | %s | %s | %.2f |\n", names[w->call], w->what,
-		       grouped(units / w->best[0]), grouped(units / w->best[1]), ratio(w));
+		printf("| `%s` | %s | %s | %s | %.2f | %.2f to %.2f |\n", names[w->call], w->what,
+		       grouped(units / quartile(w->seconds[0], 2)),
+		       grouped(units / quartile(w->seconds[1], 2)), quartile(w->ratios, 2),
+		       quartile(w->ratios, 1), quartile(w->ratios, 3));
+	}
+}
+
+/* What the check reads: all numbers of the table, 12 bytes an interval and 4 a block.
+ * `bin_size` does little else. */
+static void print_bytes(void)
+{
+	static const char *const what[3] = {"`bin_size`, proved", "`bin_size`, C", "their sum in C"};
+	const struct work *w = works;
+
+	while (w->call != BIN_SIZE || w->map != &maps[LARGEST])
+		w++;
+
+	double bytes = 12.0 * w->map->header.interval_count + 4.0 * w->map->header.block_count;
+
+	printf("\nThe %s bytes of the largest table, bytes read a second:\n\n", grouped(bytes));
+	printf("| | bytes a second | time / time of the sum |\n|---|---:|---:|\n");
+	for (int which = 0; which < 3; which++) {
+		double taken = quartile(w->seconds[which], 2);
+
+		printf("| %s | %s | %.2f |\n", what[which],
+		       grouped(bytes * (double)w->times / taken),
+		       taken / quartile(w->seconds[2], 2));
 	}
 }
 
@@ -748,22 +823,25 @@ static void print_slower(void)
 
 	printf("\n");
 	for (const struct work *w = works; w < works + work_count; w++) {
-		if (ratio(w) > 1.1) {
-			printf("Above 1.1: %.2f, `%s`, %s\n", ratio(w), names[w->call], w->what);
+		double ratio = quartile(w->ratios, 2);
+
+		if (ratio > 1.0) {
+			printf("Above 1.00: %.2f, `%s`, %s\n", ratio, names[w->call], w->what);
 			slower = true;
 		}
 	}
 	if (!slower)
-		printf("None is above 1.1.\n");
+		printf("None is above 1.00.\n");
 }
 
 int main(int argc, char **argv)
 {
-	int runs = argc > 1 ? atoi(argv[1]) : 21;
 	size_t calls_end;
 
-	if (runs < 1)
-		fail("the number of runs is not above 0", 2);
+	if (argc > 1)
+		rounds = atoi(argv[1]);
+	if (rounds < 1)
+		fail("the number of rounds is not above 0", 2);
 	make_maps();
 	add_calls();
 	calls_end = work_count;
@@ -777,11 +855,12 @@ int main(int argc, char **argv)
 	       grouped((double)questions), grouped((double)(questions - accepted)));
 	fflush(stdout);
 
-	measure(works, work_count, runs);
+	measure(works, work_count, rounds);
 	print_histories();
-	print_table("Calls a second, rows a second for `relocations`:", works, works + calls_end);
+	print_table("Calls a second, rows a second for `relocations`, the median of the rounds:", works, works + calls_end);
 	print_table("The same by the number of intervals:", works + calls_end,
 		    works + work_count);
+	print_bytes();
 	print_slower();
 	return 0;
 }

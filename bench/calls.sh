@@ -2,10 +2,11 @@
 # Compares the proved calls with those by hand in bench/irr.c: first that both answer the
 # same, then how fast they are. Prints Markdown tables; 1.00 is level, less is faster.
 #
-#   bench/calls.sh [archive [runs]]
+#   bench/calls.sh [archive [rounds]]
 #
-# The archive is target/c/libirr.a of this repository (`make archive`) unless another is named; each
-# measurement is the best of 21 runs unless another number is given.
+# The archive is target/c/libirr.a of this repository (`make archive`) unless another is named. A round
+# measures both, one right after the other; there are 101 unless another number is given. The
+# tables have the medians over the rounds, of the ratio also the quartiles.
 # Ends with 1 if an answer differs, with 2 if it can't compare. A slow call is no failure.
 set -eu
 
@@ -16,7 +17,7 @@ fail() {
 
 here=$(CDPATH='' cd -- "$(dirname -- "$0")" && pwd)
 archive=${1:-$here/../target/c/libirr.a}
-runs=${2:-21}
+rounds=${2:-101}
 [ -f "$archive" ] || fail "no archive $archive; build it, or name another"
 
 work=$(mktemp -d)
@@ -38,6 +39,6 @@ done
 gcc "$work/calls.o" "$work/aligned-irr.o" "$work/aligned-${archive##*/}" -o "$work/calls" ||
 	fail "gcc failed"
 status=0
-"$work/calls" "$runs" || status=$?
+"$work/calls" "$rounds" || status=$?
 [ $status -le 2 ] || fail "the comparison broke off with status $status"
 exit $status

@@ -5,94 +5,151 @@
 #include "method.h"
 #include "plain.h"
 
+enum {
+	SUMS = 68 /* cells for the sums of IRR_MAX_BLOCKS, a multiple of 4 */
+};
+
 _Static_assert(__BYTE_ORDER__ == __ORDER_LITTLE_ENDIAN__, "a saved number is copied as it is");
+
+/* ------------------------------------------------------------------ numbers */
+
+/* Number i of an array or a file, which need not be aligned. */
+static inline uint32_t number(const void *numbers, size_t i)
+{
+	uint32_t x;
+
+	memcpy(&x, (const char *)numbers + 4 * i, sizeof x);
+	return x;
+}
+
+static inline int32_t signed_number(const void *numbers, size_t i)
+{
+	return (int32_t)number(numbers, i);
+}
 
 /* ----------------------------------------------------------------- refusals */
 
+/* The tests of arrays gather what is wrong without a branch on what they read: the compiler
+ * makes vector code of them. */
+
 /* 11: B, G or k outside its limits. */
-static bool header_wrong(struct irr_header h)
+static inline bool header_wrong(struct irr_header h)
 {
 	return outside(IRR_MAX_BUCKETS, h.buckets) || outside(IRR_MAX_BLOCKS, h.block_count) ||
 	       outside(IRR_MAX_INTERVALS, h.interval_count);
 }
 
-/* Whether the first entries rise strictly from above 0. */
-static bool rising(const uint32_t *xs, uint32_t count)
+/* Whether the first entries rise strictly from above 0, and stay below 2^31 (as signed
+ * numbers they compare faster): whoever asks also wants the last below that. */
+static inline bool rising(const void *xs, uint32_t count)
 {
-	uint32_t last = 0;
+	int32_t right = -(signed_number(xs, 0) > 0);
 
-	for (uint32_t i = 0; i < count; i++) {
-		if (xs[i] <= last)
-			return false;
-		last = xs[i];
-	}
-	return true;
+#pragma GCC unroll 4
+	for (uint32_t i = 1; i < count; i++)
+		right &= -(signed_number(xs, i - 1) < signed_number(xs, i));
+	return right != 0;
+}
+
+/* 12: tops that don't rise strictly, a first of 0, a last above its limit or above B. */
+static inline bool tops_wrong(struct irr_header h, const void *tops)
+{
+	uint32_t bins = number(tops, h.block_count - 1);
+
+	return !rising(tops, h.block_count) | (bins > IRR_MAX_BINS) | (bins > h.buckets);
+}
+
+/* 13: ends that don't rise strictly, a first of 0, a last other than B. */
+static inline bool ends_wrong(struct irr_header h, const void *ends)
+{
+	return !rising(ends, h.interval_count) |
+	       (number(ends, h.interval_count - 1) != h.buckets);
 }
 
 /* 14: an interval's block not below G. */
-static bool blocks_wrong(const struct table *t)
+static inline bool blocks_wrong(struct irr_header h, const void *blocks)
 {
-	for (uint32_t i = 0; i < t->header.interval_count; i++)
-		if (t->blocks[i] >= t->header.block_count)
-			return true;
-	return false;
+	int32_t wrong = 0;
+
+#pragma GCC unroll 4
+	for (uint32_t i = 0; i < h.interval_count; i++)
+		wrong |= -(number(blocks, i) > h.block_count - 1);
+	return wrong != 0;
 }
 
 /* 15: a block whose intervals hold another number than its due. */
-static bool holdings_wrong(const struct table *t, const uint32_t sums[IRR_MAX_BLOCKS])
+static inline bool holdings_wrong(struct irr_header h, struct share share, const void *tops,
+				  const uint32_t sums[])
 {
-	uint32_t each = t->header.buckets / bins_of(t);
-	uint32_t extra = t->header.buckets % bins_of(t); /* bins below it are due one more */
-	uint32_t below = 0;
+	uint32_t below = 0, wrong = 0;
 
-	for (uint32_t j = 0; j < t->header.block_count; j++) {
-		uint32_t through = t->tops[j] * each + min(t->tops[j], extra);
+	for (uint32_t j = 0; j < h.block_count; j++) {
+		uint32_t through = due_below(share, number(tops, j));
 
-		if (sums[j] != through - below)
-			return true;
+		wrong |= sums[j] ^ (through - below);
 		below = through;
 	}
-	return false;
+	return wrong != 0;
 }
 
 /* The refusal of a table whose arrays have their counts: 12 to 14, or 0. */
-static uint32_t order_refusal(const struct table *t)
+static inline uint32_t order_refusal(struct irr_header h, const void *tops, const void *ends,
+				     const void *blocks)
 {
-	struct irr_header h = t->header;
-
-	if (!rising(t->tops, h.block_count) || bins_of(t) > IRR_MAX_BINS ||
-	    bins_of(t) > h.buckets)
+	if (tops_wrong(h, tops))
 		return 12;
-	if (!rising(t->ends, h.interval_count) || t->ends[h.interval_count - 1] != h.buckets)
+	if (ends_wrong(h, ends))
 		return 13;
-	return blocks_wrong(t) ? 14 : 0;
+	return blocks_wrong(h, blocks) ? 14 : 0;
 }
 
-/* 15 and 16 by one pass over the intervals: what a block holds before an interval gives
- * the interval's adjustment, and what it holds at the end has to be its due. */
-static uint32_t sums_refusal(const struct table *t)
+/* Clears the sums of the blocks, four at a time. */
+static inline void clear(uint32_t sums[SUMS], uint32_t block_count)
 {
-	uint32_t sums[IRR_MAX_BLOCKS];
+	for (uint32_t j = 0; j < block_count; j += 4)
+		memset(sums + j, 0, 4 * sizeof *sums);
+}
+
+/* Where an adjustment is wrong: 15 if a block holds another number than its due, else 16. */
+static __attribute__((noinline, cold)) uint32_t adjustment_refusal(const struct table *t)
+{
+	uint32_t sums[SUMS];
 	uint32_t start = 0;
-	bool adjusted = true;
 
-	memset(sums, 0, t->header.block_count * sizeof *sums);
+	clear(sums, t->header.block_count);
 	for (uint32_t i = 0; i < t->header.interval_count; i++) {
-		uint32_t end = t->ends[i];
-		uint32_t sum = sums[t->blocks[i]];
+		sums[t->blocks[i]] += t->ends[i] - start;
+		start = t->ends[i];
+	}
+	return holdings_wrong(t->header, t->share, t->tops, sums) ? 15 : 16;
+}
 
-		if (t->adjustments[i] != start - sum)
-			adjusted = false;
-		sums[t->blocks[i]] = sum + (end - start);
+/* 15 and 16, or 0, of a table that passes 12 to 14. Where an interval's adjustment is right,
+ * its block holds before it the start less the adjustment, and then the end less the
+ * adjustment: no turn waits for the sum of the turn before it. */
+static inline __attribute__((always_inline)) uint32_t sums_refusal(const struct table *t)
+{
+	uint32_t sums[SUMS];
+	const uint32_t *ends = t->ends, *blocks = t->blocks, *adjustments = t->adjustments;
+	const uint32_t *stop = ends + t->header.interval_count;
+	uint32_t start = 0, wrong = 0;
+
+	clear(sums, t->header.block_count);
+#pragma GCC unroll 4
+	for (; ends < stop; ends++, blocks++, adjustments++) {
+		uint32_t end = *ends, block = *blocks, adjustment = *adjustments;
+
+		wrong |= sums[block] ^ (start - adjustment);
+		sums[block] = end - adjustment;
 		start = end;
 	}
-	if (holdings_wrong(t, sums))
-		return 15;
-	return adjusted ? 0 : 16;
+	if (wrong != 0)
+		return adjustment_refusal(t);
+	return holdings_wrong(t->header, t->share, t->tops, sums) ? 15 : 0;
 }
 
-/* The refusal of a lent table: 11 to 16, or 0. */
-static uint32_t check(const struct table *t, size_t tops_length, size_t ends_length,
+/* The refusal of a lent table: 11 to 16, or 0. Then its share is known. */
+static uint32_t check(struct table *t, size_t tops_length, size_t ends_length,
 		      size_t blocks_length, size_t adjustments_length)
 {
 	struct irr_header h = t->header;
@@ -101,8 +158,11 @@ static uint32_t check(const struct table *t, size_t tops_length, size_t ends_len
 	if (header_wrong(h) || tops_length < h.block_count || ends_length < h.interval_count ||
 	    blocks_length < h.interval_count || adjustments_length < h.interval_count)
 		return 11;
-	refusal = order_refusal(t);
-	return refusal != 0 ? refusal : sums_refusal(t);
+	refusal = order_refusal(h, t->tops, t->ends, t->blocks);
+	if (refusal != 0)
+		return refusal;
+	t->share = share_of(h.buckets, bins_of(t));
+	return sums_refusal(t);
 }
 
 /* 21: less room than any new table may need. */
@@ -115,37 +175,63 @@ static bool room_short(size_t tops_length, size_t ends_length, size_t blocks_len
 
 /* ---------------------------------------------------------------- move list */
 
-/* Writes the rows of the buckets from `bucket` up to `end`, which interval i of the old
- * map holds. `order` is the first bucket's order number, and so its rank in the new
- * block, of the bins from new_first to new_top - 1. From row to row both places step. */
-static void write_rows(const struct table *old, uint32_t i, uint32_t bucket, uint32_t end,
-		       uint32_t order, uint32_t new_top, uint32_t *restrict row)
+/* Writes so many rows in which neither bin is the last of its block, but for the last row. */
+static inline uint32_t *write_run(uint32_t *restrict row, uint32_t count, uint64_t bucket_bin,
+				  uint32_t position, uint64_t place)
 {
-	uint32_t first = first_bin(old, old->blocks[i]), top = old->tops[old->blocks[i]];
-	uint32_t rank = bucket - old->adjustments[i];
-	uint32_t bin = first + rank % (top - first), position = rank / (top - first);
-	uint32_t new_first = bins_of(old);
-	uint32_t new_bin = new_first + order % (new_top - new_first);
-	uint32_t new_position = order / (new_top - new_first);
-
-	for (; bucket < end; bucket++, row += IRR_ROW) {
-		row[0] = bucket;
-		row[1] = bin;
+	for (; count > 0; count--, row += IRR_ROW) {
+		memcpy(row, &bucket_bin, sizeof bucket_bin);
 		row[2] = position;
-		row[3] = new_bin;
-		row[4] = new_position;
-		if (bin == top - 1) {
-			bin = first;
+		memcpy(row + 3, &place, sizeof place);
+		bucket_bin += pair(1, 1);
+		place++;
+	}
+	return row;
+}
+
+/* Writes the rows of the buckets from `bucket` on, `count` of them, which interval i of the
+ * old map holds. `order` is the first bucket's order number, and so its rank in the new
+ * block, of the bins from new_first to new_last. From row to row both places step, each by
+ * one of two sums that are both ready before it is known which: in the block's last bin the
+ * next bin is its first, and the position rises. */
+static void write_rows(const struct table *old, uint32_t i, uint32_t bucket, uint32_t count,
+		       uint32_t order, uint32_t new_last, uint32_t *restrict row)
+{
+	uint32_t first = first_bin(old, old->blocks[i]), last = old->tops[old->blocks[i]] - 1;
+	uint32_t width = last - first + 1, rank = bucket - old->adjustments[i];
+	uint32_t new_first = bins_of(old), new_width = new_last - new_first + 1;
+	uint32_t position = rank / width;
+	uint64_t bucket_bin = pair(bucket, first + rank % width), last_bin = pair(0, last);
+	uint64_t step = pair(1, 1), wrap = step - pair(0, width);
+	uint64_t place = pair(new_first + order % new_width, order / new_width);
+	uint64_t new_wrap = pair(1, 1) - new_width;
+
+	/* In wide blocks, whole runs up to the next last bin. */
+	while (width >= 8 && new_width >= 8 && count > 0) {
+		uint32_t run = min(last - (uint32_t)(bucket_bin >> 32), new_last - (uint32_t)place);
+
+		run = min(run + 1, count);
+		row = write_run(row, run, bucket_bin, position, place);
+		count -= run;
+		bucket_bin += pair(run, run);
+		place += run;
+		if (bucket_bin >= last_bin + pair(0, 1)) {
+			bucket_bin -= pair(0, width);
 			position++;
-		} else {
-			bin++;
 		}
-		if (new_bin == new_top - 1) {
-			new_bin = new_first;
-			new_position++;
-		} else {
-			new_bin++;
-		}
+		if ((uint32_t)place > new_last)
+			place += pair(0, 1) - new_width;
+	}
+	for (uint32_t *end = row + (size_t)IRR_ROW * count; row < end; row += IRR_ROW) {
+		uint64_t next = bucket_bin + step, next_wrapped = bucket_bin + wrap;
+		uint64_t next_place = place + 1, next_place_wrapped = place + new_wrap;
+
+		memcpy(row, &bucket_bin, sizeof bucket_bin);
+		row[2] = position;
+		memcpy(row + 3, &place, sizeof place);
+		position += bucket_bin >= last_bin;
+		bucket_bin = bucket_bin >= last_bin ? next_wrapped : next;
+		place = (uint32_t)place >= new_last ? next_place_wrapped : next_place;
 	}
 }
 
@@ -154,20 +240,20 @@ static void write_rows(const struct table *old, uint32_t i, uint32_t bucket, uin
 static void list_moves(const struct table *old, uint32_t bins, const uint32_t due[],
 		       uint32_t first, uint32_t count, uint32_t *restrict rows)
 {
-	uint32_t start = 0, order = 0, written = 0;
+	uint32_t start = 0, order = 0; /* order number of the interval's first move */
 
-	for (uint32_t i = 0; written < count; i++) {
+	for (uint32_t i = 0; count > 0; i++) {
 		uint32_t end = old->ends[i];
 		uint32_t cut = cut_of(old, due, i, start);
-		uint32_t next = order + (end - cut); /* order number past this interval */
+		uint32_t next = order + (end - cut);
 
-		if (next > first + written) {
-			uint32_t skip = first + written - order;
-			uint32_t here = min(next - (first + written), count - written);
+		if (next > first) {
+			uint32_t here = min(next - first, count);
 
-			write_rows(old, i, cut + skip, cut + skip + here, first + written, bins,
-				   rows + (size_t)IRR_ROW * written);
-			written += here;
+			write_rows(old, i, cut + (first - order), here, first, bins - 1, rows);
+			rows += (size_t)IRR_ROW * here;
+			first += here;
+			count -= here;
 		}
 		order = next;
 		start = end;
@@ -200,7 +286,7 @@ plain_expand(struct irr_header header,
 	     uint32_t *new_blocks, size_t new_blocks_length,
 	     uint32_t *new_adjustments, size_t new_adjustments_length)
 {
-	struct table t = {header, tops, ends, blocks, adjustments};
+	struct table t = {header, tops, ends, blocks, adjustments, {0, 0}};
 	struct new_table new = {new_tops, new_ends, new_blocks, new_adjustments, 0};
 	uint32_t refusal;
 
@@ -210,7 +296,19 @@ plain_expand(struct irr_header header,
 	refusal = check(&t, tops_length, ends_length, blocks_length, adjustments_length);
 	if (refusal != 0)
 		return refused_table(refusal);
-	return grown(&t, buckets, bins, &new);
+	return grown(t, buckets, bins, new);
+}
+
+/* As place_reply. */
+static inline struct irr_relocations_reply relocations_reply(uint32_t refusal, uint32_t written,
+							     uint32_t total)
+{
+	struct irr_relocations_reply reply;
+	uint64_t first = pair(refusal, written);
+
+	memcpy(&reply, &first, sizeof first);
+	reply.total = total;
+	return reply;
 }
 
 struct irr_relocations_reply
@@ -222,7 +320,7 @@ plain_relocations(struct irr_header header,
 		  uint32_t buckets, uint32_t bins, uint32_t first,
 		  uint32_t *rows, size_t rows_length)
 {
-	struct table t = {header, tops, ends, blocks, adjustments};
+	struct table t = {header, tops, ends, blocks, adjustments, {0, 0}};
 	uint32_t refusal = check(&t, tops_length, ends_length, blocks_length, adjustments_length);
 	uint32_t due[IRR_MAX_BLOCKS];
 	size_t room = rows_length / IRR_ROW;
@@ -230,18 +328,18 @@ plain_relocations(struct irr_header header,
 	if (refusal == 0)
 		refusal = growth_refusal(&t, buckets, bins);
 	if (refusal != 0)
-		return (struct irr_relocations_reply){.refusal = refusal};
+		return relocations_reply(refusal, 0, 0);
 
-	uint32_t most = due_sizes(&t, buckets, bins, due);
+	uint32_t most = due_sizes(&t, share_of(buckets, bins), due);
 	uint32_t total = most < header.buckets ? header.buckets - most : 0;
 
 	if (first > total)
-		return (struct irr_relocations_reply){.refusal = 9};
+		return relocations_reply(9, 0, 0);
 
 	uint32_t count = room < total - first ? (uint32_t)room : total - first;
 
 	list_moves(&t, bins, due, first, count, rows);
-	return (struct irr_relocations_reply){0, count, total};
+	return relocations_reply(0, count, total);
 }
 
 struct irr_place_reply
@@ -250,11 +348,11 @@ plain_place(struct irr_header header,
 	    const uint32_t *blocks, size_t blocks_length,
 	    const uint32_t *adjustments, size_t adjustments_length, uint32_t bucket)
 {
-	struct table t = {header, tops, ends, blocks, adjustments};
+	struct table t = {header, tops, ends, blocks, adjustments, {0, 0}};
 	uint32_t refusal = check(&t, tops_length, ends_length, blocks_length, adjustments_length);
 
 	if (refusal != 0)
-		return (struct irr_place_reply){.refusal = refusal};
+		return place_reply(refusal, 0, 0);
 	return placed(&t, bucket);
 }
 
@@ -265,7 +363,7 @@ plain_find(struct irr_header header,
 	   const uint32_t *adjustments, size_t adjustments_length,
 	   uint32_t bin, uint32_t position)
 {
-	struct table t = {header, tops, ends, blocks, adjustments};
+	struct table t = {header, tops, ends, blocks, adjustments, {0, 0}};
 	uint32_t refusal = check(&t, tops_length, ends_length, blocks_length, adjustments_length);
 
 	if (refusal != 0)
@@ -280,7 +378,7 @@ plain_bin_size(struct irr_header header,
 	       const uint32_t *blocks, size_t blocks_length,
 	       const uint32_t *adjustments, size_t adjustments_length, uint32_t bin)
 {
-	struct table t = {header, tops, ends, blocks, adjustments};
+	struct table t = {header, tops, ends, blocks, adjustments, {0, 0}};
 	uint32_t refusal = check(&t, tops_length, ends_length, blocks_length, adjustments_length);
 
 	if (refusal != 0)
@@ -300,25 +398,11 @@ plain_room(uint32_t expansions)
 
 /* --------------------------------------------------------------- saved form */
 
-static inline void put_number(uint8_t *to, uint32_t x)
-{
-	memcpy(to, &x, sizeof x);
-}
-
-static inline uint32_t get_number(const uint8_t *from)
-{
-	uint32_t x;
-
-	memcpy(&x, from, sizeof x);
-	return x;
-}
-
 /* Writes the first numbers of an array. Returns the place past them. */
-static uint8_t *put_numbers(uint8_t *restrict to, const uint32_t *restrict xs, uint32_t count)
+static inline uint8_t *put_numbers(uint8_t *to, const void *numbers, uint32_t count)
 {
-	for (uint32_t i = 0; i < count; i++)
-		put_number(to + 4 * i, xs[i]);
-	return to + 4 * count;
+	memcpy(to, numbers, 4 * (size_t)count);
+	return to + 4 * (size_t)count;
 }
 
 static size_t saved_length(struct irr_header h)
@@ -333,7 +417,7 @@ plain_save(struct irr_header header,
 	   const uint32_t *adjustments, size_t adjustments_length,
 	   uint8_t *buffer, size_t buffer_length)
 {
-	struct table t = {header, tops, ends, blocks, adjustments};
+	struct table t = {header, tops, ends, blocks, adjustments, {0, 0}};
 	uint32_t refusal = check(&t, tops_length, ends_length, blocks_length, adjustments_length);
 
 	if (refusal != 0)
@@ -341,56 +425,56 @@ plain_save(struct irr_header header,
 	if (buffer_length < saved_length(header))
 		return (struct irr_save_reply){.refusal = 21};
 
-	put_number(buffer, header.buckets);
-	put_number(buffer + 4, header.block_count);
-	put_number(buffer + 8, header.interval_count);
-	buffer = put_numbers(buffer + 12, tops, header.block_count);
+	buffer = put_numbers(buffer, &header, 3);
+	buffer = put_numbers(buffer, tops, header.block_count);
 	buffer = put_numbers(buffer, ends, header.interval_count);
 	put_numbers(buffer, blocks, header.interval_count);
 	return (struct irr_save_reply){0, (uint32_t)saved_length(header)};
 }
 
-/* Reads the first numbers of an array. Returns the place past them. */
-static const uint8_t *get_numbers(const uint8_t *restrict from, uint32_t *restrict xs,
-				  uint32_t count)
-{
-	for (uint32_t i = 0; i < count; i++)
-		xs[i] = get_number(from + 4 * i);
-	return from + 4 * count;
-}
-
 /* Works out the adjustments of a table that passes 12 to 14. Returns 15, or 0. */
-static uint32_t adjust(const struct table *t, uint32_t *restrict adjustments)
+static inline uint32_t adjust(struct irr_header h, const void *tops, const void *ends,
+			      const void *blocks, uint32_t adjustments[IRR_MAX_INTERVALS])
 {
-	uint32_t sums[IRR_MAX_BLOCKS];
+	struct share share = share_of(h.buckets, number(tops, h.block_count - 1));
+	uint32_t sums[SUMS];
 	uint32_t start = 0;
 
-	memset(sums, 0, t->header.block_count * sizeof *sums);
-	for (uint32_t i = 0; i < t->header.interval_count; i++) {
-		uint32_t end = t->ends[i];
-		uint32_t sum = sums[t->blocks[i]];
+	clear(sums, h.block_count);
+	for (uint32_t i = 0; i < h.interval_count; i++) {
+		uint32_t end = number(ends, i), block = number(blocks, i);
+		uint32_t adjustment = start - sums[block];
 
-		adjustments[i] = start - sum;
-		sums[t->blocks[i]] = sum + (end - start);
+		adjustments[i] = adjustment;
+		sums[block] = end - adjustment;
 		start = end;
 	}
-	return holdings_wrong(t, sums) ? 15 : 0;
+	return holdings_wrong(h, share, tops, sums) ? 15 : 0;
 }
 
-static struct irr_load_reply refused_load(uint32_t refusal)
+/* As place_reply. */
+static inline struct irr_load_reply load_reply(uint32_t refusal, struct irr_header h)
 {
-	return (struct irr_load_reply){.refusal = refusal};
+	struct irr_load_reply reply;
+	uint64_t halves[] = {pair(refusal, h.buckets), pair(h.block_count, h.interval_count)};
+
+	memcpy(&reply, halves, sizeof reply);
+	return reply;
 }
 
-/* The numbers are read to arrays of its own, so that a refused file writes nothing. */
+static inline struct irr_load_reply refused_load(uint32_t refusal)
+{
+	return load_reply(refusal, (struct irr_header){0, 0, 0});
+}
+
+/* The file is tested where it lies, and its adjustments are worked out in an array of its
+ * own: a refused file writes nothing. */
 struct irr_load_reply
 plain_load(const uint8_t *bytes, size_t bytes_length,
 	   uint32_t *tops, size_t tops_length, uint32_t *ends, size_t ends_length,
 	   uint32_t *blocks, size_t blocks_length,
 	   uint32_t *adjustments, size_t adjustments_length)
 {
-	uint32_t top[IRR_MAX_BLOCKS];
-	uint32_t end[IRR_MAX_INTERVALS], block[IRR_MAX_INTERVALS];
 	uint32_t adjustment[IRR_MAX_INTERVALS];
 	uint32_t refusal;
 
@@ -399,24 +483,24 @@ plain_load(const uint8_t *bytes, size_t bytes_length,
 	if (bytes_length < 12)
 		return refused_load(11);
 
-	struct irr_header h = {get_number(bytes), get_number(bytes + 4), get_number(bytes + 8)};
+	struct irr_header h = {number(bytes, 0), number(bytes, 1), number(bytes, 2)};
 
 	if (header_wrong(h) || bytes_length != saved_length(h))
 		return refused_load(11);
-	bytes = get_numbers(bytes + 12, top, h.block_count);
-	bytes = get_numbers(bytes, end, h.interval_count);
-	get_numbers(bytes, block, h.interval_count);
 
-	struct table t = {h, top, end, block, adjustment};
+	size_t tops_bytes = 4 * (size_t)h.block_count, bytes_each = 4 * (size_t)h.interval_count;
+	const uint8_t *file_tops = bytes + 12;
+	const uint8_t *file_ends = file_tops + tops_bytes;
+	const uint8_t *file_blocks = file_ends + bytes_each;
 
-	refusal = order_refusal(&t);
+	refusal = order_refusal(h, file_tops, file_ends, file_blocks);
 	if (refusal == 0)
-		refusal = adjust(&t, adjustment);
+		refusal = adjust(h, file_tops, file_ends, file_blocks, adjustment);
 	if (refusal != 0)
 		return refused_load(refusal);
-	memcpy(tops, top, h.block_count * sizeof *top);
-	memcpy(ends, end, h.interval_count * sizeof *end);
-	memcpy(blocks, block, h.interval_count * sizeof *block);
-	memcpy(adjustments, adjustment, h.interval_count * sizeof *adjustment);
-	return (struct irr_load_reply){0, h};
+	memcpy(tops, file_tops, tops_bytes);
+	memcpy(ends, file_ends, bytes_each);
+	memcpy(blocks, file_blocks, bytes_each);
+	memcpy(adjustments, adjustment, bytes_each);
+	return load_reply(0, h);
 }

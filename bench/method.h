@@ -14,11 +14,23 @@
 
 #include "../include/irr.h"
 
+/* What a bin is due in a map of B buckets and n bins: B / n, and one more in the bins below
+ * B % n. */
+struct share {
+	uint32_t each, extra;
+};
+
+static inline struct share share_of(uint32_t buckets, uint32_t bins)
+{
+	return (struct share){buckets / bins, buckets % bins};
+}
+
 /* A table to read. Interval i has the buckets from the end before it (0 for the first) to
  * ends[i] - 1. A bucket's rank in its block is the bucket minus adjustments[i]. */
 struct table {
 	struct irr_header header;
 	const uint32_t *tops, *ends, *blocks, *adjustments;
+	struct share share; /* of its sizes */
 };
 
 /* The arrays that a new table is written to, and the intervals written so far. */
@@ -32,9 +44,26 @@ static inline uint32_t min(uint32_t a, uint32_t b)
 	return a < b ? a : b;
 }
 
+static inline uint32_t max(uint32_t a, uint32_t b)
+{
+	return a > b ? a : b;
+}
+
+/* Two numbers that lie side by side in memory, as one. */
+static inline uint64_t pair(uint32_t a, uint32_t b)
+{
+	return a + ((uint64_t)b << 32);
+}
+
 static inline uint32_t bins_of(const struct table *t)
 {
 	return t->tops[t->header.block_count - 1];
+}
+
+/* The first bucket of an interval. */
+static inline uint32_t start_of(const struct table *t, uint32_t i)
+{
+	return i == 0 ? 0 : t->ends[i - 1];
 }
 
 /* The first bin of a block. */
@@ -104,17 +133,21 @@ static inline struct irr_table_reply initial(uint32_t buckets, uint32_t bins,
 	return (struct irr_table_reply){.header = {buckets, 1, 1}};
 }
 
-/* What each block of t is due in a map of the given sizes, of which the blocks of t are
- * the first ones. Returns the sum. */
-static inline uint32_t due_sizes(const struct table *t, uint32_t buckets, uint32_t bins,
+/* What the bins below `top` are due. */
+static inline uint32_t due_below(struct share share, uint32_t top)
+{
+	return top * share.each + min(top, share.extra);
+}
+
+/* What each block of t is due in a map of which its blocks are the first ones. Returns the
+ * sum. */
+static inline uint32_t due_sizes(const struct table *t, struct share share,
 				 uint32_t due[IRR_MAX_BLOCKS])
 {
-	uint32_t each = buckets / bins;
-	uint32_t extra = buckets % bins; /* bins below it are due one more */
 	uint32_t below = 0;
 
 	for (uint32_t j = 0; j < t->header.block_count; j++) {
-		uint32_t through = t->tops[j] * each + min(t->tops[j], extra);
+		uint32_t through = due_below(share, t->tops[j]);
 
 		due[j] = through - below;
 		below = through;
@@ -128,51 +161,103 @@ static inline uint32_t due_sizes(const struct table *t, uint32_t buckets, uint32
 static inline uint32_t cut_of(const struct table *t, const uint32_t due[], uint32_t i,
 			      uint32_t start)
 {
-	uint32_t cut = due[t->blocks[i]] + t->adjustments[i];
-
-	if (cut < start)
-		return start;
-	return min(cut, t->ends[i]);
+	return min(max(due[t->blocks[i]] + t->adjustments[i], start), t->ends[i]);
 }
 
-/* The number of intervals that `drain` writes. */
-static inline uint32_t count_drained(const struct table *old, uint32_t buckets,
-				     const uint32_t due[])
+/* Lists the intervals of which buckets move: those at whose end their block holds more than
+ * its due. Returns their number. No branch on the data: it can't be predicted. */
+static inline uint32_t list_drained(const struct table *old, const uint32_t due[],
+				    uint32_t drained[IRR_MAX_INTERVALS])
 {
-	uint32_t count = old->header.interval_count;
-	uint32_t start = 0, cut = 0;
+	uint32_t count = 0;
 
 	for (uint32_t i = 0; i < old->header.interval_count; i++) {
-		cut = cut_of(old, due, i, start);
-		count += start < cut && cut < old->ends[i];
-		start = old->ends[i];
+		drained[count] = i;
+		count += due[old->blocks[i]] < old->ends[i] - old->adjustments[i];
 	}
-	return count + (cut == old->header.buckets && buckets > old->header.buckets);
+	return count;
+}
+
+/* The number of intervals that `drain` writes: one more for each interval of which buckets
+ * stay and buckets move. */
+static inline uint32_t count_drained(const struct table *old, uint32_t buckets,
+				     const uint32_t due[], const uint32_t drained[],
+				     uint32_t drained_count)
+{
+	uint32_t k = old->header.interval_count;
+	uint32_t count = k;
+
+	for (uint32_t m = 0; m < drained_count; m++) {
+		uint32_t i = drained[m];
+
+		count += start_of(old, i) < due[old->blocks[i]] + old->adjustments[i];
+	}
+	return count + (drained[drained_count - 1] != k - 1 && buckets > old->header.buckets);
+}
+
+/* Adds the intervals of the old map from `from` up to `to`. */
+static inline void keep_intervals(const struct table *old, uint32_t from, uint32_t to,
+				  struct new_table *new)
+{
+	size_t bytes = (to - from) * sizeof *old->ends;
+
+	if (to - from == 1) { /* a fresh map: no call is worth it */
+		add_interval(new, old->ends[from], old->blocks[from], old->adjustments[from]);
+		return;
+	}
+	memcpy(new->ends + new->intervals, old->ends + from, bytes);
+	memcpy(new->blocks + new->intervals, old->blocks + from, bytes);
+	memcpy(new->adjustments + new->intervals, old->adjustments + from, bytes);
+	new->intervals += to - from;
+}
+
+/* The same where at least three more intervals of the old map follow, each of which adds one
+ * or two: by four at a time, the last of them past the end perhaps. */
+static inline void keep_by_fours(const struct table *old, uint32_t from, uint32_t to,
+				 struct new_table *new)
+{
+	uint32_t o = new->intervals;
+
+	for (uint32_t i = from; i < to; i += 4, o += 4) {
+		memcpy(new->ends + o, old->ends + i, 4 * sizeof *old->ends);
+		memcpy(new->blocks + o, old->blocks + i, 4 * sizeof *old->blocks);
+		memcpy(new->adjustments + o, old->adjustments + i, 4 * sizeof *old->adjustments);
+	}
+	new->intervals += to - from;
 }
 
 /* Some old block is due less than it has: what is above its due goes to the new block,
  * and so do the new buckets. */
 static inline void drain(const struct table *old, uint32_t buckets, const uint32_t due[],
+			 const uint32_t drained[], uint32_t drained_count,
 			 struct new_table *new)
 {
 	struct irr_header h = old->header;
-	uint32_t start = 0, cut = 0, moved = 0;
+	uint32_t next = 0, moved = 0; /* the interval to come, and the buckets moved so far */
 
-	for (uint32_t i = 0; i < h.interval_count; i++) {
-		uint32_t end = old->ends[i];
+	for (uint32_t m = 0; m < drained_count; m++) {
+		uint32_t i = drained[m];
+		uint32_t start = start_of(old, i);
+		uint32_t cut = cut_of(old, due, i, start);
 
-		cut = cut_of(old, due, i, start);
-		if (start < cut)
-			add_interval(new, cut, old->blocks[i], old->adjustments[i]);
-		if (cut < end) {
-			add_interval(new, end, h.block_count, cut - moved);
-			moved += end - cut;
-		}
-		start = end;
+		if (i + 3 <= h.interval_count)
+			keep_by_fours(old, next, i, new);
+		else if (next < i)
+			keep_intervals(old, next, i, new);
+		/* What stays is written in any case: the part that moves is written over it
+		 * where there is none. */
+		add_interval(new, cut, old->blocks[i], old->adjustments[i]);
+		new->intervals -= start == cut;
+		add_interval(new, old->ends[i], h.block_count, cut - moved);
+		moved += old->ends[i] - cut;
+		next = i + 1;
 	}
-	if (cut < h.buckets)
+	if (next == h.interval_count) {
 		new->ends[new->intervals - 1] = buckets;
-	else if (buckets > h.buckets)
+		return;
+	}
+	keep_intervals(old, next, h.interval_count, new);
+	if (buckets > h.buckets)
 		add_interval(new, buckets, h.block_count, h.buckets - moved);
 }
 
@@ -184,8 +269,8 @@ static inline uint32_t count_filled(const struct table *old, uint32_t bins,
 	uint32_t count = old->header.interval_count + (bins > bins_of(old));
 
 	for (uint32_t j = 0; j < old->header.block_count; j++)
-		count += j != last && due[j] > had[j];
-	return count;
+		count += due[j] > had[j];
+	return count - (due[last] > had[last]);
 }
 
 /* No old block is due less than it has: all old buckets stay, and the new ones are handed
@@ -197,10 +282,7 @@ static inline void fill(const struct table *old, uint32_t buckets, uint32_t bins
 	uint32_t last = old->blocks[k - 1];
 	uint32_t next = old->header.buckets + due[last] - had[last];
 
-	memcpy(new->ends, old->ends, k * sizeof *old->ends);
-	memcpy(new->blocks, old->blocks, k * sizeof *old->blocks);
-	memcpy(new->adjustments, old->adjustments, k * sizeof *old->adjustments);
-	new->intervals = k;
+	keep_intervals(old, 0, k, new);
 	new->ends[k - 1] = next;
 
 	for (uint32_t j = 0; j < old->header.block_count; j++) {
@@ -215,80 +297,107 @@ static inline void fill(const struct table *old, uint32_t buckets, uint32_t bins
 		add_interval(new, buckets, old->header.block_count, next);
 }
 
-/* A growth, written to arrays with room for any table. */
-static inline struct irr_table_reply grown(const struct table *old, uint32_t buckets,
-					   uint32_t bins, struct new_table *new)
+/* A growth, written to arrays with room for any table. Both tables are lent as copies, so
+ * that no number that is stored can change where their arrays are. */
+static inline __attribute__((always_inline)) struct irr_table_reply
+grown(struct table lent, uint32_t buckets, uint32_t bins, struct new_table lent_new)
 {
+	const struct table *old = &lent;
+	struct new_table *new = &lent_new;
 	struct irr_header h = old->header;
-	uint32_t had[IRR_MAX_BLOCKS], due[IRR_MAX_BLOCKS];
+	uint32_t had[IRR_MAX_BLOCKS], due[IRR_MAX_BLOCKS], drained[IRR_MAX_INTERVALS];
+	uint32_t drained_count = 0, count;
 	uint32_t refusal = growth_refusal(old, buckets, bins);
 
 	if (refusal != 0)
 		return refused_table(refusal);
 
-	/* The due of a bin never falls in one old block and rises in another, so the sums
-	 * tell whether a block drains. */
-	due_sizes(old, h.buckets, bins_of(old), had);
-	uint32_t most = due_sizes(old, buckets, bins, due);
-	bool drains = most < h.buckets;
-	uint32_t count = drains ? count_drained(old, buckets, due)
-				: count_filled(old, bins, had, due);
+	/* The due of a bin never falls in one old block and rises in another, so the sum
+	 * tells whether a block drains. */
+	uint32_t most = due_sizes(old, share_of(buckets, bins), due);
 
+	if (most < h.buckets) {
+		drained_count = list_drained(old, due, drained);
+		count = count_drained(old, buckets, due, drained, drained_count);
+	} else {
+		due_sizes(old, old->share, had);
+		count = count_filled(old, bins, had, due);
+	}
 	if (count > IRR_MAX_INTERVALS)
 		return refused_table(8);
 
-	memcpy(new->tops, old->tops, h.block_count * sizeof *old->tops);
+	if (h.block_count == 1) /* no call is worth it */
+		new->tops[0] = old->tops[0];
+	else
+		memcpy(new->tops, old->tops, h.block_count * sizeof *old->tops);
 	if (bins > bins_of(old))
 		new->tops[h.block_count] = bins;
-	if (drains)
-		drain(old, buckets, due, new);
+	if (most < h.buckets)
+		drain(old, buckets, due, drained, drained_count, new);
 	else
 		fill(old, buckets, bins, had, due, new);
 
 	return (struct irr_table_reply){
-		.moved = drains ? h.buckets - most : 0,
+		.moved = most < h.buckets ? h.buckets - most : 0,
 		.header = {buckets, h.block_count + (bins > bins_of(old)), count},
 	};
 }
 
 /* ------------------------------------------------------ placing and finding */
 
-/* The interval of a bucket: the first whose end is above it. A search without a branch on
- * the data, since the outcome of a step can't be predicted. */
+/* The interval of a bucket: the first whose end is above it. A turn leaves a quarter of the
+ * intervals by three ends that don't wait for each other, without a branch on the data,
+ * since the outcome can't be predicted. */
 static inline uint32_t interval_of(const struct table *t, uint32_t bucket)
 {
 	const uint32_t *base = t->ends;
 	uint32_t length = t->header.interval_count;
 
-	while (length > 1) {
-		uint32_t half = length / 2;
+	while (length > 3) {
+		uint32_t quarter = length / 4;
 
-		base += (base[half - 1] <= bucket) * half;
-		length -= half;
+		base += quarter * ((base[quarter - 1] <= bucket) + (base[2 * quarter - 1] <= bucket) +
+				   (base[3 * quarter - 1] <= bucket));
+		length -= 3 * quarter;
+	}
+	while (length > 1) {
+		base += *base <= bucket;
+		length--;
 	}
 	return (uint32_t)(base - t->ends);
+}
+
+/* A reply. Its first two numbers come back in one register: they are made one number here,
+ * since the compiler would store them apart, load them together and wait for that. */
+static inline struct irr_place_reply place_reply(uint32_t refusal, uint32_t bin,
+						 uint32_t position)
+{
+	struct irr_place_reply reply;
+	uint64_t first = pair(refusal, bin);
+
+	memcpy(&reply, &first, sizeof first);
+	reply.position = position;
+	return reply;
 }
 
 /* The place of a bucket, or 6. */
 static inline struct irr_place_reply placed(const struct table *t, uint32_t bucket)
 {
 	if (bucket >= t->header.buckets)
-		return (struct irr_place_reply){.refusal = 6};
+		return place_reply(6, 0, 0);
 
 	uint32_t i = interval_of(t, bucket);
 	uint32_t rank = bucket - t->adjustments[i];
 	uint32_t first = first_bin(t, t->blocks[i]);
 	uint32_t size = t->tops[t->blocks[i]] - first;
 
-	return (struct irr_place_reply){0, first + rank % size, rank / size};
+	return place_reply(0, first + rank % size, rank / size);
 }
 
 /* The number of buckets in a bin below n: its due size. */
 static inline uint32_t size_of_bin(const struct table *t, uint32_t bin)
 {
-	uint32_t bins = bins_of(t);
-
-	return t->header.buckets / bins + (bin < t->header.buckets % bins);
+	return t->share.each + (bin < t->share.extra);
 }
 
 /* The bucket at a place, or 7. */
@@ -299,8 +408,8 @@ static inline struct irr_find_reply found(const struct table *t, uint32_t bin,
 		return (struct irr_find_reply){.refusal = 7};
 
 	uint32_t block = 0;
-	while (bin >= t->tops[block])
-		block++;
+	for (uint32_t j = 0; j < t->header.block_count; j++)
+		block += t->tops[j] <= bin;
 
 	uint32_t first = first_bin(t, block);
 	uint32_t rank = position * (t->tops[block] - first) + (bin - first);

@@ -4,6 +4,7 @@
  * It trusts the tables that it writes itself, and nothing of its input. The
  * method is in method.h.
  */
+#define _GNU_SOURCE /* memrchr, rawmemchr */
 #include <errno.h>
 #include <unistd.h>
 
@@ -45,30 +46,44 @@ static inline char *reply_room(void)
 	return output_next;
 }
 
+/* The number of decimal digits. Of the values with the same highest bit, those from some
+ * power of 10 on have one digit more: the sum below carries then. */
 static inline unsigned digit_count(uint32_t value)
 {
-	if (value < 10) return 1;
-	if (value < 100) return 2;
-	if (value < 1000) return 3;
-	if (value < 10000) return 4;
-	if (value < 100000) return 5;
-	if (value < 1000000) return 6;
-	if (value < 10000000) return 7;
-	if (value < 100000000) return 8;
-	if (value < 1000000000) return 9;
-	return 10;
+#define FROM(digits, power) (((digits) + UINT64_C(1)) << 32) - (power)
+#define ALL(digits) (UINT64_C(digits) << 32)
+	static const uint64_t addend[32] = {
+		ALL(1), ALL(1), ALL(1), FROM(1, 10), ALL(2), ALL(2), FROM(2, 100), ALL(3), ALL(3),
+		FROM(3, 1000), ALL(4), ALL(4), ALL(4), FROM(4, 10000), ALL(5), ALL(5),
+		FROM(5, 100000), ALL(6), ALL(6), FROM(6, 1000000), ALL(7), ALL(7), ALL(7),
+		FROM(7, 10000000), ALL(8), ALL(8), FROM(8, 100000000), ALL(9), ALL(9),
+		FROM(9, 1000000000), ALL(10), ALL(10),
+	};
+#undef FROM
+#undef ALL
+
+	return (unsigned)((value + addend[31 - __builtin_clz(value | 1)]) >> 32);
 }
 
+/* Writes a number, two digits at a time. */
 static inline char *put_number(char *to, uint32_t value)
 {
+	static const char pairs[] =
+		"00010203040506070809101112131415161718192021222324252627282930313233"
+		"34353637383940414243444546474849505152535455565758596061626364656667"
+		"6869707172737475767778798081828384858687888990919293949596979899";
 	char *end = to + digit_count(value);
 	char *p = end;
 
-	while (value >= 10) {
-		*--p = (char)('0' + value % 10);
-		value /= 10;
+	while (value >= 100) {
+		p -= 2;
+		memcpy(p, pairs + 2 * (value % 100), 2);
+		value /= 100;
 	}
-	*to = (char)('0' + value);
+	if (value >= 10)
+		memcpy(p - 2, pairs + 2 * value, 2);
+	else
+		p[-1] = (char)('0' + value);
 	return end;
 }
 
@@ -115,6 +130,7 @@ struct map {
 	uint32_t ends[IRR_MAX_INTERVALS];
 	uint32_t blocks[IRR_MAX_INTERVALS];
 	uint32_t adjustments[IRR_MAX_INTERVALS];
+	struct share share;
 };
 
 static struct map maps[2];
@@ -125,7 +141,7 @@ static bool has_before;
 
 static inline struct table to_read(const struct map *m)
 {
-	return (struct table){m->header, m->tops, m->ends, m->blocks, m->adjustments};
+	return (struct table){m->header, m->tops, m->ends, m->blocks, m->adjustments, m->share};
 }
 
 static inline struct new_table to_write(struct map *m)
@@ -145,6 +161,7 @@ static void fresh(uint32_t buckets, uint32_t bins)
 		return;
 	}
 	map->header = reply.header;
+	map->share = share_of(buckets, bins);
 	has_map = true;
 	has_before = false;
 	reply_two("ok ", 0, 1);
@@ -154,9 +171,7 @@ static void fresh(uint32_t buckets, uint32_t bins)
 static void grow(uint32_t buckets, uint32_t bins)
 {
 	struct map *old = map;
-	struct table t = to_read(old);
-	struct new_table new = to_write(before);
-	struct irr_table_reply reply = grown(&t, buckets, bins, &new);
+	struct irr_table_reply reply = grown(to_read(old), buckets, bins, to_write(before));
 
 	if (reply.refusal != 0) {
 		refuse(reply.refusal);
@@ -164,6 +179,7 @@ static void grow(uint32_t buckets, uint32_t bins)
 	}
 	map = before;
 	map->header = reply.header;
+	map->share = share_of(buckets, bins);
 	before = old;
 	has_before = true;
 	reply_two("ok ", reply.moved, reply.header.interval_count);
@@ -180,7 +196,7 @@ static void where(uint32_t bucket)
 		reply_two("place ", reply.bin, reply.position);
 }
 
-static void at(uint32_t bin, uint32_t position)
+static void find(uint32_t bin, uint32_t position)
 {
 	struct table t = to_read(map);
 	struct irr_find_reply reply = found(&t, bin, position);
@@ -205,7 +221,7 @@ static void moves(void)
 	uint32_t new_bin = new_first, new_position = 0;
 	uint32_t start = 0;
 
-	due_sizes(&old, now.header.buckets, new_top, due);
+	due_sizes(&old, now.share, due);
 	for (uint32_t i = 0; i < old.header.interval_count; i++) {
 		uint32_t end = old.ends[i];
 		uint32_t cut = cut_of(&old, due, i, start);
@@ -249,84 +265,106 @@ static void moves(void)
 
 /* ------------------------------------------------------------------- lines */
 
-/* Takes the text at *at, which a line from *at to end may start with. */
-static inline bool take_text(const char **at, const char *end, const char *text)
+/* A line ends with a line feed, which no word and no number has in it: so nothing is read
+ * past a line but the rest of a block of 8 bytes. */
+
+/* Takes the text if the line goes on with it. */
+static inline bool take_text(const char **at, const char *text)
 {
 	size_t length = strlen(text);
 
-	if ((size_t)(end - *at) < length || memcmp(*at, text, length) != 0)
+	if (memcmp(*at, text, length) != 0)
 		return false;
 	*at += length;
 	return true;
 }
 
-/* Takes one to ten digits with a value below 2^32. */
-static inline bool take_number(const char **at, const char *end, uint32_t *value)
+/* Takes up to eight digits. Returns their value. */
+static inline uint32_t take_eight(const char **at)
 {
-	const char *p = *at;
-	const char *limit = end - p > 10 ? p + 10 : end;
-	uint64_t sum = 0;
+	uint64_t bytes, others;
+	unsigned count;
 
-	while (p < limit && (unsigned char)(*p - '0') < 10)
+	memcpy(&bytes, *at, sizeof bytes);
+	bytes ^= UINT64_C(0x3030303030303030); /* digits are 0 to 9 now, other bytes above */
+	others = (bytes | (bytes + UINT64_C(0x7676767676767676))) & UINT64_C(0x8080808080808080);
+	count = others == 0 ? 8 : (unsigned)__builtin_ctzll(others) / 8;
+	if (count == 0)
+		return 0;
+	*at += count;
+	bytes <<= 64 - 8 * count; /* zeros before the first digit */
+	bytes = bytes * 10 + (bytes >> 8);                                     /* pairs */
+	bytes = (bytes & UINT64_C(0x00ff00ff00ff00ff)) * 100 +
+		((bytes >> 16) & UINT64_C(0x00ff00ff00ff00ff));                /* fours */
+	bytes = (bytes & UINT64_C(0x0000ffff0000ffff)) * 10000 +
+		((bytes >> 32) & UINT64_C(0x0000ffff0000ffff));
+	return (uint32_t)bytes;
+}
+
+/* Takes one to ten digits with a value below 2^32. */
+static inline bool take_number(const char **at, uint32_t *value)
+{
+	const char *first = *at;
+	const char *p = first;
+	uint64_t sum = take_eight(&p);
+
+	while (p < first + 10 && (unsigned char)(*p - '0') < 10)
 		sum = sum * 10 + (unsigned char)(*p++ - '0');
-	if (p == *at || sum > UINT32_MAX)
-		return false;
 	*at = p;
 	*value = (uint32_t)sum;
-	return true;
+	return p != first && sum <= UINT32_MAX;
 }
 
-/* Takes a number and the end of the line. */
-static inline bool take_one(const char *at, const char *end, uint32_t *a)
+/* Takes a number and the line feed. */
+static inline bool take_one(const char **at, uint32_t *a)
 {
-	return take_number(&at, end, a) && at == end;
+	return take_number(at, a) && take_text(at, "\n");
 }
 
-/* Takes two numbers with a blank between, and the end of the line. */
-static inline bool take_two(const char *at, const char *end, uint32_t *a, uint32_t *b)
+/* Takes two numbers with a blank between, and the line feed. */
+static inline bool take_two(const char **at, uint32_t *a, uint32_t *b)
 {
-	return take_number(&at, end, a) && take_text(&at, end, " ") &&
-	       take_one(at, end, b);
+	return take_number(at, a) && take_text(at, " ") && take_one(at, b);
 }
 
-/* Answers one line. No readable line is longer than 27 bytes, so one of more than
- * 64 is unreadable without a test of its length. */
-static void answer(const char *line, const char *end)
+/* Answers one line. Returns the place past it. No readable line is longer than 27 bytes, so
+ * one of more than 64 is unreadable without a test of its length. */
+static const char *answer(const char *line)
 {
+	const char *at = line;
 	uint32_t a, b;
 
-	if (has_map && take_text(&line, end, "where ")) {
-		if (take_one(line, end, &a)) {
+	if (has_map && take_text(&at, "where ")) {
+		if (take_one(&at, &a)) {
 			where(a);
-			return;
+			return at;
 		}
-	} else if (has_map && take_text(&line, end, "at ")) {
-		if (take_two(line, end, &a, &b)) {
-			at(a, b);
-			return;
+	} else if (has_map && take_text(&at, "at ")) {
+		if (take_two(&at, &a, &b)) {
+			find(a, b);
+			return at;
 		}
-	} else if (has_map && take_text(&line, end, "grow ")) {
-		if (take_two(line, end, &a, &b)) {
+	} else if (has_map && take_text(&at, "grow ")) {
+		if (take_two(&at, &a, &b)) {
 			grow(a, b);
-			return;
+			return at;
 		}
-	} else if (has_map && take_text(&line, end, "moves")) {
-		if (line == end) {
-			moves();
-			return;
-		}
-	} else if (take_text(&line, end, "fresh ")) {
-		if (take_two(line, end, &a, &b)) {
+	} else if (has_map && take_text(&at, "moves\n")) {
+		moves();
+		return at;
+	} else if (take_text(&at, "fresh ")) {
+		if (take_two(&at, &a, &b)) {
 			fresh(a, b);
-			return;
+			return at;
 		}
 	}
 	refuse(has_map ? 23 : 10);
+	return (const char *)rawmemchr(line, '\n') + 1;
 }
 
 int main(void)
 {
-	static char input[MAX_LINE + 1 + INPUT_BLOCK];
+	static char input[MAX_LINE + 1 + INPUT_BLOCK + 8]; /* 8 that may be read past a line */
 	size_t kept = 0; /* bytes of an unfinished line at the start of the input */
 
 	for (;;) {
@@ -341,14 +379,11 @@ int main(void)
 			break;
 
 		const char *line = input;
-		const char *unread = input + kept;
-		const char *stop = unread + got;
-		const char *feed;
+		const char *stop = input + kept + got;
+		const char *last_feed = memrchr(input + kept, '\n', (size_t)got);
 
-		while ((feed = memchr(unread, '\n', (size_t)(stop - unread))) != NULL) {
-			answer(line, feed);
-			line = unread = feed + 1;
-		}
+		while (last_feed != NULL && line <= last_feed)
+			line = answer(line);
 
 		/* Of an overlong line, so much is kept that it stays overlong. */
 		kept = (size_t)(stop - line);
@@ -356,8 +391,10 @@ int main(void)
 			kept = MAX_LINE + 1;
 		memmove(input, line, kept);
 	}
-	if (kept > 0)
-		answer(input, input + kept);
+	if (kept > 0) {
+		input[kept] = '\n';
+		answer(input);
+	}
 	flush();
 	return 0;
 }

@@ -6,6 +6,7 @@
 
 import os
 import random
+import statistics
 import sys
 import time
 
@@ -154,18 +155,21 @@ def measure(folder, plain, proved, runs, intervals, moved):
         (f"moves, {intervals:,} intervals", "moves.in", moved),
         ("where, 1 interval", "where-one.in", WHERE_LINES),
     ]
-    print(f"Lines a second, by user and system time, best of {runs} runs:")
-    print(f"{'':24}{'lines':>12}{'C':>14}{'proved':>14}{'proved / C':>12}")
+    print(f"Lines a second, by user and system time: medians of {runs} runs, each of both programs in turn.")
+    print("proved / C: the median over the runs, and the quartiles.")
+    print(f"{'':24}{'lines':>12}{'C':>14}{'proved':>14}{'proved / C':>12}{'quartiles':>14}")
     for title, name, lines in tests:
         path = os.path.join(folder, name)
-        best = {plain: float("inf"), proved: float("inf")}
+        taken = {plain: [], proved: []}
         for turn in range(runs):
             for program in (plain, proved) if turn % 2 == 0 else (proved, plain):
-                best[program] = min(best[program], finish(start(program, path)))
-        rates = [lines / best[program] for program in (plain, proved)]
+                taken[program].append(finish(start(program, path)))
+        ratios = sorted(c / ours for c, ours in zip(taken[plain], taken[proved]))
+        rates = [lines / statistics.median(taken[program]) for program in (plain, proved)]
+        quartiles = f"{ratios[(runs - 1) // 4]:.2f} to {ratios[(runs - 1) * 3 // 4]:.2f}"
         print(
             f"{title:24}{lines:12,}{rates[0]:14,.0f}{rates[1]:14,.0f}"
-            f"{rates[1] / rates[0]:12.2f}"
+            f"{statistics.median(ratios):12.2f}{quartiles:>14}"
         )
     print("Largest resident memory, KiB:")
     for title, name, _ in tests[:2]:

@@ -5,7 +5,7 @@
 #   bench/rackmap.sh [program [runs]]
 #
 # The program is target/bin/rackmap of this repository unless another is named;
-# each measurement is the best of 7 runs unless another number is given.
+# there are 15 runs of both, one right after the other, unless another number is given.
 # Ends with 1 if the programs print different things, with 2 if it can't compare.
 set -eu
 
@@ -16,7 +16,7 @@ fail() {
 
 here=$(CDPATH='' cd -- "$(dirname -- "$0")" && pwd)
 proved=${1:-$here/../target/bin/rackmap}
-runs=${2:-7}
+runs=${2:-15}
 case $proved in
 /*) ;;
 *) proved=$PWD/$proved ;;
