@@ -6,7 +6,6 @@ use native.Mathlib.Nat.{le-of-lt}
 use native.Mathlib.Omega.{arith}
 use lib.ListN.{getD}
 use Rattle.model.specs.Basics.{before}
-use Rattle.model.specs.Limits.{maxBlocks}
 use Rattle.model.specs.Table.{Shape, Arrays, table}
 use Rattle.model.specs.Due.{dueOfBlock}
 use Rattle.model.specs.Sound.{Sound}

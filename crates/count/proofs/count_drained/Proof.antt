@@ -1,6 +1,6 @@
 -- `count::count_drained` meets its contract. The loop's invariant: the intervals counted and those that the walk still
 -- makes are all. Assumes nothing.
-use Prim.Native.Nat.{ℕ, _+_, _*_, _-_, _≤_}
+use Prim.Native.Nat.{ℕ, _*_, _-_, _≤_}
 use mathlib.Core.Path.{_∙_, ap}
 use mathlib.Core.List.{List}
 use native.Mathlib.Omega.{arith}
@@ -49,7 +49,9 @@ part-count-requires : tie.Need-part-count-requires Inv-loop μ-loop
 part-count-requires c κs = search needs
 
 add-intervals : tie.Need-add-intervals Inv-loop μ-loop
-add-intervals c = omega (arith, c .part-count .ensures .0, c .before .before .before .before .before .before .before .before .before .pre .holds .sound .intervalLimit)
+add-intervals c =
+    let given = c .before .before .before .before .before .before .before .before .before .pre in
+    omega (arith, c .part-count .ensures .0, given .holds .sound .intervalLimit)
 
 mul-start : tie.Need-mul-start Inv-loop μ-loop
 mul-start c = omega arith

@@ -44,7 +44,8 @@ loop-again c = (
   omega arith,
   λ t s shares.
       let turn = c .before .before .before .loop in
-      let some = count-take t s (turn .j) (c .before .before .before .before .args .count) (omega arith) (λ e. c .if1 .taken (c .before .piece .ensures t s shares ∙ e)) in
+      let n = c .before .before .before .before .args .count in
+      let some = count-take t s (turn .j) n (omega arith) (λ e. c .if1 .taken (c .before .piece .ensures t s shares ∙ e)) in
       omega (arith, turn .inv .2 t s shares, some),
 )
 
@@ -57,7 +58,8 @@ loop-again-2 c = (
   omega arith,
   λ t s shares.
       let turn = c .before .before .before .loop in
-      let none = count-skip t s (turn .j) (c .before .before .before .before .args .count) (omega arith) (sym (c .before .piece .ensures t s shares) ∙ c .if1 .left) in
+      let n = c .before .before .before .before .args .count in
+      let none = count-skip t s (turn .j) n (omega arith) (sym (c .before .piece .ensures t s shares) ∙ c .if1 .left) in
       omega (arith, turn .inv .2 t s shares, none),
 )
 

@@ -25,7 +25,9 @@ fresh
     : (c : tie.Else1)
     → let s = c .before .before .before .before in
     ours s ≡ is s ∷ interval (s .args .end + s .args .left) (s .args .g) (s .args .end - s .args .moved) ∷ []
-fresh c = let s = c .before .before .before .before in made-fresh (staying (s .args .moved)) (is s) (s .args .g) (s .args .left) refl (s .pre .0 .0) (c .if1 .left)
+fresh c =
+    let s = c .before .before .before .before in
+    made-fresh (staying (s .args .moved)) (is s) (s .args .g) (s .args .left) refl (s .pre .0 .0) (c .if1 .left)
 
 write-interval-requires : tie.Need-write-interval-requires
 write-interval-requires c κs = let arm = c .before .before .before in rw (alone arm) at (arm .before .before .before .before .pre .1)

@@ -24,7 +24,10 @@ same-length-3 : tie.Need-same-length-3
 same-length-3 c = search needs
 
 returns : tie.Need-returns
-returns c = stored-more _ refl (c .before .before .before .before .before .before .before .before .before .before .before .before .before .before .before .before .write-interval .ensures) (c .before .before .before .before .before .before .write-interval2 .ensures)
+returns c =
+    let second = c .before .before .before .before .before .before in
+    let first = second .before .before .before .before .before .before .before .before .before .before in
+    stored-more _ refl (first .write-interval .ensures) (second .write-interval2 .ensures)
 
 pub write-two-spec : {M : Type 1} → statement M
 write-two-spec =

@@ -4,7 +4,6 @@ use mathlib.Core.Path.{_≡_}
 use native.Mathlib.Omega.{arith}
 use lib.ListN.{length, getD}
 use Rattle.model.specs.Limits.{maxBlocks}
-use Rattle.model.specs.Table.{arrays}
 use Rattle.model.specs.Expansion.{lengthTo, pieces}
 use Rattle.model.specs.Lent.{lent}
 use Rattle.model.proofs.Steps.{filled-length}

@@ -2,7 +2,6 @@
 use mathlib.Core.Path.{sym, _∙_}
 use native.Mathlib.Omega.{arith}
 use Rattle.model.specs.Table.{sizes}
-use Rattle.model.specs.Lent.{lent}
 use Rattle.model.proofs.Expanded.{expanded-drained, expanded-filled}
 use Rattle.model.proofs.Steps.{drained-count}
 use Rattle.count.proofs.Pieces.{grows-drains, grows-fills}

@@ -1,6 +1,6 @@
 -- `expansion::write_pieces` meets its contract. The loop's invariant: the pieces written and those of the blocks from j on
 -- are the whole. Assumes nothing.
-use Prim.Native.Nat.{ℕ, _+_, _-_, _^_, _≤_, _<_}
+use Prim.Native.Nat.{_+_, _-_, _^_, _≤_, _<_}
 use mathlib.Core.Path.{_≡_, refl, sym, _∙_, ap}
 use mathlib.Core.List.{[], _∷_, _++_}
 use native.Mathlib.Nat.{sub-zero}

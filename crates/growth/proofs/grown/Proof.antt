@@ -23,7 +23,8 @@ dues-before-requires c κs = search needs
 dues-after-requires : tie.Need-dues-after-requires
 dues-after-requires c κs =
     let asked = c .before .before .before in
-    (asked .before .before .before .before .before .before .before .before .before .before .pre .0, (sym (asked .before .growth-refusal .ensures) ∙ asked .if1 .left, refl))
+    let start = asked .before .before .before .before .before .before .before .before .before .before in
+    (start .pre .0, (sym (asked .before .growth-refusal .ensures) ∙ asked .if1 .left, refl))
 
 some-fall-requires : tie.Need-some-fall-requires
 some-fall-requires c κs = search needs

@@ -71,7 +71,8 @@ element-write-dues c =
     omega (
       arith,
       tops-length _ _ (start .pre .0),
-      new-room (t start) (z start) (well start) (asked start) (omega (arith, c .before .before .before .before .before .before .bin-count .ensures, c .before .before .if1 .taken)),
+      new-room (t start) (z start) (well start) (asked start)
+          (omega (arith, c .before .before .before .before .before .before .bin-count .ensures, c .before .before .if1 .taken)),
     )
 
 returns : tie.Need-returns

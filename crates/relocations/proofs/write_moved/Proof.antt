@@ -90,38 +90,54 @@ plan-at-requires c κs =
     interval-at _ _ (start .pre .0) _ _ _ (c .before .before .if1 .taken) (inv .starts) (inv .below)
 
 mul-end : tie.Need-mul-end Inv-loop μ-loop
-mul-end c = omega (arith, c .before .before .before .if1 .taken, c .before .before .before .before .before .before .before .before .before .before .before .before .pre .0 .intervalLimit)
+mul-end c =
+    let test = c .before .before .before in
+    omega (arith, test .if1 .taken, test .before .before .before .before .before .before .before .before .before .pre .0 .intervalLimit)
 
 shared-slice-read-end : tie.Need-shared-slice-read-end Inv-loop μ-loop
-shared-slice-read-end c = lt-of-lt-of-le (c .before .before .before .before .if1 .taken) (c .before .before .before .before .before .before .before .before .before .before .before .before .before .pre .0 .endsLong)
+shared-slice-read-end c =
+    let test = c .before .before .before .before in
+    lt-of-lt-of-le (test .if1 .taken) (test .before .before .before .before .before .before .before .before .before .pre .0 .endsLong)
 
 mul-placing-of : tie.Need-mul-placing-of Inv-loop μ-loop
-mul-placing-of c = omega (arith, c .before .before .before .before .if1 .taken, c .before .before .before .before .before .before .before .before .before .before .before .before .before .pre .0 .intervalLimit)
+mul-placing-of c =
+    let test = c .before .before .before .before in
+    omega (arith, test .if1 .taken, test .before .before .before .before .before .before .before .before .before .pre .0 .intervalLimit)
 
 shared-slice-read-placing-of : tie.Need-shared-slice-read-placing-of Inv-loop μ-loop
-shared-slice-read-placing-of c = lt-of-lt-of-le (c .before .before .before .before .before .if1 .taken) (c .before .before .before .before .before .before .before .before .before .before .before .before .before .before .pre .0 .blocksLong)
+shared-slice-read-placing-of c =
+    let test = c .before .before .before .before .before in
+    lt-of-lt-of-le (test .if1 .taken) (test .before .before .before .before .before .before .before .before .before .pre .0 .blocksLong)
 
 cast-placing-of : tie.Need-cast-placing-of Inv-loop μ-loop
 cast-placing-of c =
     let start = c .before .before .before .before .before .before .before .before .before .before .before .before .before .before in
-    omega (arith, start .pre .0 .blocksBelow (c .before .before .before .before .before .before .before .loop .i) (c .before .before .before .before .before .if1 .taken), start .pre .0 .blockLimit)
+    let test = c .before .before .before .before .before in
+    let below = start .pre .0 .blocksBelow (test .before .before .loop .i) (test .if1 .taken) in
+    omega (arith, start .pre .0 .blockLimit)
 
 mul-placing-of-2 : tie.Need-mul-placing-of-2 Inv-loop μ-loop
-mul-placing-of-2 c = omega (arith, c .before .before .before .before .before .if1 .taken, c .before .before .before .before .before .before .before .before .before .before .before .before .before .before .pre .0 .intervalLimit)
+mul-placing-of-2 c =
+    let test = c .before .before .before .before .before in
+    omega (arith, test .if1 .taken, test .before .before .before .before .before .before .before .before .before .pre .0 .intervalLimit)
 
 shared-slice-read-placing-of-2 : tie.Need-shared-slice-read-placing-of-2 Inv-loop μ-loop
-shared-slice-read-placing-of-2 c = lt-of-lt-of-le (c .before .before .before .before .before .before .if1 .taken) (c .before .before .before .before .before .before .before .before .before .before .before .before .before .before .before .pre .0 .adjustmentsLong)
+shared-slice-read-placing-of-2 c =
+    let test = c .before .before .before .before .before .before in
+    lt-of-lt-of-le (test .if1 .taken) (test .before .before .before .before .before .before .before .before .before .pre .0 .adjustmentsLong)
 
 placing-of-requires : tie.Need-placing-of-requires Inv-loop μ-loop
 placing-of-requires c κs =
     let start = c .before .before .before .before .before .before .before .before .before .before .before .before .before .before .before in
-    let below = start .pre .0 .blocksBelow (c .before .before .before .before .before .before .before .before .loop .i) (c .before .before .before .before .before .before .if1 .taken) in
+    let test = c .before .before .before .before .before .before in
+    let below = start .pre .0 .blocksBelow (test .before .before .loop .i) (test .if1 .taken) in
     (lt-of-lt-of-le below (start .pre .0 .topsLong), le-of-lt (start .pre .0 .topsRise _ below))
 
 sub-write-action : tie.Need-sub-write-action Inv-loop μ-loop
 sub-write-action c =
     let start = c .before .before .before .before .before .before .before .before .before .before .before .before .before .before .before .before in
-    omega (arith, accepted (table (start .args .h) (lists start)) (asked start) (start .pre .1 .1 .asked) .moreBins, c .before .before .before .before .before .before .before .before .before .before .bin-count .ensures)
+    let more = accepted (table (start .args .h) (lists start)) (asked start) (start .pre .1 .1 .asked) .moreBins in
+    omega (arith, c .before .before .before .before .before .before .before .before .before .before .bin-count .ensures)
 
 write-action-requires : tie.Need-write-action-requires Inv-loop μ-loop
 write-action-requires c κs =
@@ -148,16 +164,19 @@ write-action-requires c κs =
     )
 
 add-i : tie.Need-add-i Inv-loop μ-loop
-add-i c = omega (arith, c .before .before .before .before .before .before .before .before .before .before .before .if1 .taken, c .before .before .before .before .before .before .before .before .before .before .before .before .before .before .before .before .before .before .before .before .pre .0 .intervalLimit)
+add-i c =
+    let test = c .before .before .before .before .before .before .before .before .before .before .before in
+    omega (arith, test .if1 .taken, test .before .before .before .before .before .before .before .before .before .pre .0 .intervalLimit)
 
 loop-less : tie.Need-loop-less Inv-loop μ-loop
 loop-less c = falls _ _ (c .before .before .before .before .before .before .before .before .before .before .before .if1 .taken)
 
 loop-again : tie.Need-loop-again Inv-loop μ-loop
 loop-again c b m =
-    let start = c .before .before .before .before .before .before .before .before .before .before .before .before .before .before .before .before .before .before .before .before in
+    let test = c .before .before .before .before .before .before .before .before .before .before .before in
+    let start = test .before .before .before .before .before .before .before .before .before in
     let at = c .before .before .before .before .before .before .before .before .before .before .before .before .before .loop in
-    let l = c .before .before .before .before .before .before .before .before .before .before .before .if1 .taken in
+    let l = test .if1 .taken in
     walking-more (start .args .h) (lists start) (sizes b (start .args .bins)) (start .pre .0) (m .asked) (m .falls)
     (start .args .first)
     (start .args .rows .now)

@@ -35,7 +35,9 @@ moves c =
     record { asked = asked; falls = falls; after = c .before .before .dues-after .ensures }
 
 write-moved-requires : tie.Need-write-moved-requires
-write-moved-requires c κs = let start = c .before .before .before .before .before .before .before .before .before .before in (start .pre .0, (start .args .buckets, moves c))
+write-moved-requires c κs =
+    let start = c .before .before .before .before .before .before .before .before .before .before in
+    (start .pre .0, (start .args .buckets, moves c))
 
 same-length : tie.Need-same-length
 same-length c = search needs

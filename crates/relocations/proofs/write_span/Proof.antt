@@ -87,7 +87,9 @@ next-slot-requires-2 c κs =
     (start .fits .end .fits)
 
 add-x : tie.Need-add-x Inv-loop μ-loop
-add-x c = omega (arith, c .before .before .before .before .before .before .loop-test .taken, c .before .before .before .before .before .before .before .before .before .before .before .before .before .fits .end)
+add-x c =
+    let test = c .before .before .before .before .before .before in
+    omega (arith, test .loop-test .taken, test .before .before .before .before .before .before .before .fits .end)
 
 add-entry : tie.Need-add-entry Inv-loop μ-loop
 add-entry c =
