@@ -23,7 +23,7 @@ use Rattle.model.proofs.Soundness.{growth-numbered}
 use Rattle.model.proofs.Tables.{from-append, length-over}
 use Rattle.model.proofs.Rows.{joined-append}
 use Rattle.model.proofs.Pages.{Fives, fives-length, fives-page, fives-rows, page-length, page-past}
-use Rattle.growth.specs.Replies.{movesRefusal, MovesReply}
+use Rattle.expansion.specs.Replies.{movesRefusal, MovesReply}
 use Rattle.print.specs.Numbers.{moveRoom}
 use Rattle.print.proofs.Lines.{move-short}
 use Rattle.session.specs.Maps.{Maps, isGrown, mapOf, beforeOf, sessionAt, session, sizesOf, GrownFrom}

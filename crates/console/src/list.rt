@@ -1,5 +1,7 @@
 // The `move` lines of the latest growth, page by page.
 use crate::Page;
+use model::limits::BLOCKS;
+use model::limits::INTERVALS;
 use print::put_move;
 use session::state::Stage;
 use session::state::State;
@@ -55,7 +57,7 @@ fn page(
 {
     let current = state.current;
     let before = state.before;
-    let reply = growth::relocated(
+    let reply = expansion::relocated(
         before,
         tops,
         ends,
@@ -77,14 +79,14 @@ fn page(
 // A page of the move list of the latest growth, from order number `first` on; `rows` is written over.
 pub fn list(
     state: State,
-    tops: &[u32; 65],
-    ends: &[u32; 2081],
-    blocks: &[u32; 2081],
-    adjustments: &[u32; 2081],
-    second_tops: &[u32; 65],
-    second_ends: &[u32; 2081],
-    second_blocks: &[u32; 2081],
-    second_adjustments: &[u32; 2081],
+    tops: &[u32; BLOCKS],
+    ends: &[u32; INTERVALS],
+    blocks: &[u32; INTERVALS],
+    adjustments: &[u32; INTERVALS],
+    second_tops: &[u32; BLOCKS],
+    second_ends: &[u32; INTERVALS],
+    second_blocks: &[u32; INTERVALS],
+    second_adjustments: &[u32; INTERVALS],
     first: u32,
     rows: &mut [u32],
     out: &mut [u8],

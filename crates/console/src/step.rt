@@ -1,5 +1,7 @@
 // One line: read, done, and answered.
 use crate::Reply;
+use model::limits::BLOCKS;
+use model::limits::INTERVALS;
 use print::put_bucket;
 use print::put_ok;
 use print::put_place;
@@ -57,14 +59,14 @@ fn reply(done: Step, out: &mut [u8], at: usize) -> Reply
 pub fn step(
     line: &[u8],
     state: State,
-    tops: &mut [u32; 65],
-    ends: &mut [u32; 2081],
-    blocks: &mut [u32; 2081],
-    adjustments: &mut [u32; 2081],
-    second_tops: &mut [u32; 65],
-    second_ends: &mut [u32; 2081],
-    second_blocks: &mut [u32; 2081],
-    second_adjustments: &mut [u32; 2081],
+    tops: &mut [u32; BLOCKS],
+    ends: &mut [u32; INTERVALS],
+    blocks: &mut [u32; INTERVALS],
+    adjustments: &mut [u32; INTERVALS],
+    second_tops: &mut [u32; BLOCKS],
+    second_ends: &mut [u32; INTERVALS],
+    second_blocks: &mut [u32; INTERVALS],
+    second_adjustments: &mut [u32; INTERVALS],
     out: &mut [u8],
     at: usize,
 ) -> Reply

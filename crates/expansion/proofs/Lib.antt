@@ -1,2 +1,2 @@
-pub mod Filling
-pub mod Tops
+pub mod Grows
+pub mod Moves

@@ -92,7 +92,7 @@ pub fn expand(
     if refusal != 0 {
         return sizes::refused_table(refusal);
     }
-    growth::grown(
+    expansion::grown(
         header,
         tops,
         ends,
@@ -133,7 +133,7 @@ pub fn relocations(
             total: 0,
         };
     }
-    growth::relocated(
+    expansion::relocated(
         header,
         tops,
         ends,

@@ -2,6 +2,8 @@
 use console::list::list;
 use console::step::step;
 use lines::feed_at;
+use model::limits::BLOCKS;
+use model::limits::INTERVALS;
 use model::table::Header;
 use print::LINE;
 use print::MOVE;
@@ -100,14 +102,14 @@ pub fn receive(m: Machine, block: &mut [u8], got: usize) -> Machine
 // A page of the move list in progress, if there is one, put into the empty buffer.
 fn page(
     m: Machine,
-    tops: &[u32; 65],
-    ends: &[u32; 2081],
-    blocks: &[u32; 2081],
-    adjustments: &[u32; 2081],
-    second_tops: &[u32; 65],
-    second_ends: &[u32; 2081],
-    second_blocks: &[u32; 2081],
-    second_adjustments: &[u32; 2081],
+    tops: &[u32; BLOCKS],
+    ends: &[u32; INTERVALS],
+    blocks: &[u32; INTERVALS],
+    adjustments: &[u32; INTERVALS],
+    second_tops: &[u32; BLOCKS],
+    second_ends: &[u32; INTERVALS],
+    second_blocks: &[u32; INTERVALS],
+    second_adjustments: &[u32; INTERVALS],
     rows: &mut [u32; NUMBERS],
     out: &mut [u8; OUT],
 ) -> After
@@ -157,14 +159,14 @@ fn page(
 fn answer(
     m: Machine,
     block: &[u8],
-    tops: &mut [u32; 65],
-    ends: &mut [u32; 2081],
-    blocks: &mut [u32; 2081],
-    adjustments: &mut [u32; 2081],
-    second_tops: &mut [u32; 65],
-    second_ends: &mut [u32; 2081],
-    second_blocks: &mut [u32; 2081],
-    second_adjustments: &mut [u32; 2081],
+    tops: &mut [u32; BLOCKS],
+    ends: &mut [u32; INTERVALS],
+    blocks: &mut [u32; INTERVALS],
+    adjustments: &mut [u32; INTERVALS],
+    second_tops: &mut [u32; BLOCKS],
+    second_ends: &mut [u32; INTERVALS],
+    second_blocks: &mut [u32; INTERVALS],
+    second_adjustments: &mut [u32; INTERVALS],
     put: usize,
     out: &mut [u8; OUT],
 ) -> After
@@ -238,14 +240,14 @@ fn keep(block: &mut [u8], from: usize, size: usize) -> usize
 pub fn turn(
     m: Machine,
     block: &mut [u8],
-    tops: &mut [u32; 65],
-    ends: &mut [u32; 2081],
-    blocks: &mut [u32; 2081],
-    adjustments: &mut [u32; 2081],
-    second_tops: &mut [u32; 65],
-    second_ends: &mut [u32; 2081],
-    second_blocks: &mut [u32; 2081],
-    second_adjustments: &mut [u32; 2081],
+    tops: &mut [u32; BLOCKS],
+    ends: &mut [u32; INTERVALS],
+    blocks: &mut [u32; INTERVALS],
+    adjustments: &mut [u32; INTERVALS],
+    second_tops: &mut [u32; BLOCKS],
+    second_ends: &mut [u32; INTERVALS],
+    second_blocks: &mut [u32; INTERVALS],
+    second_adjustments: &mut [u32; INTERVALS],
     rows: &mut [u32; NUMBERS],
     out: &mut [u8; OUT],
 ) -> After

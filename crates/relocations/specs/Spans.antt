@@ -12,7 +12,7 @@ use Rattle.model.specs.Expansion.{parts, someFall, expanded}
 use Rattle.model.specs.Relocations.{rows, page}
 use Rattle.model.specs.Calls.{growthTests}
 use Rattle.model.specs.declared.plan.Action.{Action}
-use Rattle.plan.specs.Shares.{DuesAfter}
+use Rattle.expansion_plan.specs.Shares.{DuesAfter}
 use Rattle.relocations.specs.declared.Placing.{Placing}
 use Rattle.relocations.specs.declared.Slot.{Slot}
 

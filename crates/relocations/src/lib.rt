@@ -12,10 +12,11 @@ ghost use Rattle.model.specs.Expansion.{parts};
 ghost use Rattle.model.specs.Relocations.{page};
 ghost use Rattle.model.specs.Calls.{growthTests};
 ghost use Rattle.relocations.specs.Spans.{placing, placedRow, withRows, partRows, paged, movesOf, Places, Slotted, Steps, Part, ActionMoves, Moves};
+use expansion_plan::dues_after;
+use expansion_plan::plan_at;
+use model::limits::BLOCKS;
 use model::plan::Action;
 use model::table::Header;
-use plan::dues_after;
-use plan::plan_at;
 use table::before;
 use table::bin_count;
 use table::due_below;
@@ -224,7 +225,7 @@ fn write_moved(
     blocks: &[u32],
     adjustments: &[u32],
     bins: u32,
-    dues: &[u32; 65],
+    dues: &[u32; BLOCKS],
     first: u32,
     rows: &mut [u32],
 )
@@ -318,7 +319,7 @@ pub fn write_relocations(
     if left == 0 {
         return 0;
     }
-    let mut dues = [0u32; 65];
+    let mut dues = [0u32; BLOCKS];
     dues_after(h, tops, ends, blocks, adjustments, buckets, bins, &mut dues);
     write_moved(h, tops, ends, blocks, adjustments, bins, &dues, first, rows);
     let room = rows.len() / 5;

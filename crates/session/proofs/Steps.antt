@@ -25,7 +25,7 @@ use Rattle.model.proofs.Counts.{bit-cases}
 use Rattle.model.proofs.Refusals.{accepted as answer-accepted, refused as answer-refused}
 use Rattle.model.proofs.Soundness.{arrays-written}
 use Rattle.model.proofs.Searches.{first-searched, found-refusal}
-use Rattle.growth.specs.Replies.{growRefusal, GrowReply}
+use Rattle.expansion.specs.Replies.{growRefusal, GrowReply}
 use Rattle.session.specs.Maps.{Maps, maps, isEmpty, mapOf, sessionAt, session, performed, next, isGrow, flips, accepted, answered, Stepped}
 use Rattle.session.specs.declared.state.Stage.{Stage}
 use Rattle.session.specs.declared.state.Stage.the-variants as stage

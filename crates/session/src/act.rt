@@ -122,7 +122,7 @@ fn grow(
         return refused(state, 10);
     }
     let header = state.current;
-    let grown = growth::grown(
+    let grown = expansion::grown(
         header,
         tops,
         ends,

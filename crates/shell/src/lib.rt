@@ -7,6 +7,8 @@ use machine::OUT;
 use machine::receive;
 use machine::start;
 use machine::turn;
+use model::limits::BLOCKS;
+use model::limits::INTERVALS;
 ghost use mathlib.Core.Path.{_≡_};
 ghost use mathlib.Core.Bool.{false};
 ghost use Prim.Native.Nat.{_+_, _≤_, _<_};
@@ -38,14 +40,14 @@ fn read(block: &mut [u8], size: usize) -> usize
 fn work(
     m: Machine,
     block: &mut [u8; BLOCK],
-    tops: &mut [u32; 65],
-    ends: &mut [u32; 2081],
-    blocks: &mut [u32; 2081],
-    adjustments: &mut [u32; 2081],
-    second_tops: &mut [u32; 65],
-    second_ends: &mut [u32; 2081],
-    second_blocks: &mut [u32; 2081],
-    second_adjustments: &mut [u32; 2081],
+    tops: &mut [u32; BLOCKS],
+    ends: &mut [u32; INTERVALS],
+    blocks: &mut [u32; INTERVALS],
+    adjustments: &mut [u32; INTERVALS],
+    second_tops: &mut [u32; BLOCKS],
+    second_ends: &mut [u32; INTERVALS],
+    second_blocks: &mut [u32; INTERVALS],
+    second_adjustments: &mut [u32; INTERVALS],
     rows: &mut [u32; NUMBERS],
     out: &mut [u8; OUT],
 ) -> After
@@ -86,14 +88,14 @@ fn work(
 // what falls.
 fn serve(
     block: &mut [u8; BLOCK],
-    tops: &mut [u32; 65],
-    ends: &mut [u32; 2081],
-    blocks: &mut [u32; 2081],
-    adjustments: &mut [u32; 2081],
-    second_tops: &mut [u32; 65],
-    second_ends: &mut [u32; 2081],
-    second_blocks: &mut [u32; 2081],
-    second_adjustments: &mut [u32; 2081],
+    tops: &mut [u32; BLOCKS],
+    ends: &mut [u32; INTERVALS],
+    blocks: &mut [u32; INTERVALS],
+    adjustments: &mut [u32; INTERVALS],
+    second_tops: &mut [u32; BLOCKS],
+    second_ends: &mut [u32; INTERVALS],
+    second_blocks: &mut [u32; INTERVALS],
+    second_adjustments: &mut [u32; INTERVALS],
     rows: &mut [u32; NUMBERS],
     out: &mut [u8; OUT],
 )
@@ -133,14 +135,14 @@ fn serve(
 // The program, with its two whole tables.
 pub fn run() {
     let mut block = [0; BLOCK];
-    let mut tops = [0; 65];
-    let mut ends = [0; 2081];
-    let mut blocks = [0; 2081];
-    let mut adjustments = [0; 2081];
-    let mut second_tops = [0; 65];
-    let mut second_ends = [0; 2081];
-    let mut second_blocks = [0; 2081];
-    let mut second_adjustments = [0; 2081];
+    let mut tops = [0; BLOCKS];
+    let mut ends = [0; INTERVALS];
+    let mut blocks = [0; INTERVALS];
+    let mut adjustments = [0; INTERVALS];
+    let mut second_tops = [0; BLOCKS];
+    let mut second_ends = [0; INTERVALS];
+    let mut second_blocks = [0; INTERVALS];
+    let mut second_adjustments = [0; INTERVALS];
     let mut rows = [0; NUMBERS];
     let mut out = [0; OUT];
     serve(

@@ -6,7 +6,7 @@ use borrow.Author.Count.{falls}
 use Rattle.model.specs.Table.{Shape, Arrays, arrays, table, sizes}
 use Rattle.model.specs.Lent.{lent}
 use Rattle.model.proofs.Growths.{accepted}
-use Rattle.plan.proofs.Turns.{interval-at, planned}
+use Rattle.expansion_plan.proofs.Turns.{interval-at, planned}
 use Rattle.relocations.specs.Spans.{Moves}
 use Rattle.relocations.proofs.Walking.{
   Walking,
