@@ -13,7 +13,7 @@ use Rattle.model.specs.Sound.{Sound}
 use Rattle.model.specs.Console.{text, read, movesOf}
 use Rattle.model.proofs.Counts.{bit-cases}
 use Rattle.model.specs.declared.command.Command.{Command}
-use Rattle.session.specs.Maps.{Maps, maps, isGrown, mapOf, beforeOf, session, next, answered, shown, isList, Stepped, sizesOf, Right}
+use Rattle.session.specs.Maps.{maps, isGrown, beforeOf, session, next, answered, shown, isList, Stepped, sizesOf, Right}
 use Rattle.session.specs.declared.state.Stage.the-variants.{Grown}
 use Rattle.session.specs.declared.state.State.{State}
 use Rattle.session.specs.declared.state.Step.{Step}

@@ -92,10 +92,15 @@ pub fn list(
     out: &mut [u8],
 ) -> Page
     requires { ⌜ RackRight state tops ends blocks adjustments «second_tops» «second_ends» «second_blocks» «second_adjustments» ⌝ }
-    requires { ⌜ first ≤ length (movesIn (rackNow state tops ends blocks adjustments «second_tops» «second_ends» «second_blocks» «second_adjustments»)) ⌝ }
+    requires { ⌜
+        first ≤ length (movesIn (rackNow state tops ends blocks adjustments «second_tops» «second_ends» «second_blocks» «second_adjustments»))
+        ⌝ }
     requires { ⌜ Room rows out ⌝ }
     ensures { λ r.
-        ⌜ Lists (movesIn (rackGiven state tops ends blocks adjustments «second_tops» «second_ends» «second_blocks» «second_adjustments»)) first rows out r ⌝ }
+        ⌜
+        Lists
+        (movesIn (rackGiven state tops ends blocks adjustments «second_tops» «second_ends» «second_blocks» «second_adjustments»)) first rows out r
+        ⌝ }
 {
     let none = Page {
         rows: 0,

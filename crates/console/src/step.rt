@@ -74,11 +74,9 @@ pub fn step(
     requires { ⌜ RackRight state tops ends blocks adjustments «second_tops» «second_ends» «second_blocks» «second_adjustments» ⌝ }
     ensures { λ r.
         ⌜
-        Served
-        (rackGiven state tops ends blocks adjustments «second_tops» «second_ends» «second_blocks» «second_adjustments»)
+        Served (rackGiven state tops ends blocks adjustments «second_tops» «second_ends» «second_blocks» «second_adjustments»)
         (now (line .entry)) at (now (out .entry)) r
-        (rackLeft (r .state) tops ends blocks adjustments «second_tops» «second_ends» «second_blocks» «second_adjustments»)
-        (now (out .exit))
+        (rackLeft (r .state) tops ends blocks adjustments «second_tops» «second_ends» «second_blocks» «second_adjustments») (now (out .exit))
         ⌝ }
 {
     let command = lines::read(line);

@@ -32,17 +32,12 @@ fn accepted(
     new_blocks: &mut [u32],
     new_adjustments: &mut [u32],
 ) -> TableReply
-    requires { ⌜
-        Grows header (now ends) (now blocks) (now adjustments) buckets (now olds) (now dues) falls «block_count» (now tops) bins
-        ⌝ }
+    requires { ⌜ Grows header (now ends) (now blocks) (now adjustments) buckets (now olds) (now dues) falls «block_count» (now tops) bins ⌝ }
     requires { ⌜ roomShort (arraysNow «new_tops» «new_ends» «new_blocks» «new_adjustments») ≡ false ⌝ }
     ensures { λ r.
         ⌜
-        GrowReply (tableGiven header tops ends blocks adjustments)
-        (sizes buckets bins)
-        (given «new_tops» «new_ends» «new_blocks» «new_adjustments»)
-        (left «new_tops» «new_ends» «new_blocks» «new_adjustments»)
-        r
+        GrowReply (tableGiven header tops ends blocks adjustments) (sizes buckets bins)
+        (given «new_tops» «new_ends» «new_blocks» «new_adjustments») (left «new_tops» «new_ends» «new_blocks» «new_adjustments») r
         ⌝ }
 {
     let growth = expansion_count::measure(
@@ -105,11 +100,8 @@ pub fn grown(
     requires { ⌜ roomShort (arraysNow «new_tops» «new_ends» «new_blocks» «new_adjustments») ≡ false ⌝ }
     ensures { λ r.
         ⌜
-        GrowReply (tableGiven header tops ends blocks adjustments)
-        (sizes buckets bins)
-        (given «new_tops» «new_ends» «new_blocks» «new_adjustments»)
-        (left «new_tops» «new_ends» «new_blocks» «new_adjustments»)
-        r
+        GrowReply (tableGiven header tops ends blocks adjustments) (sizes buckets bins)
+        (given «new_tops» «new_ends» «new_blocks» «new_adjustments») (left «new_tops» «new_ends» «new_blocks» «new_adjustments») r
         ⌝ }
 {
     let wrong = expansion_plan::growth_refusal(
@@ -184,8 +176,7 @@ pub fn relocated(
     requires { ⌜ LentSound header tops ends blocks adjustments ⌝ }
     ensures { λ r.
         ⌜
-        MovesReply (tableGiven header tops ends blocks adjustments)
-        (sizes buckets bins) first (now (rows .entry)) (now (rows .exit)) r
+        MovesReply (tableGiven header tops ends blocks adjustments) (sizes buckets bins) first (now (rows .entry)) (now (rows .exit)) r
         ⌝ }
 {
     let wrong = expansion_plan::growth_refusal(

@@ -93,8 +93,10 @@ pub fn piece(last: u32, olds: &[u32; BLOCKS], dues: &[u32; BLOCKS], j: usize) ->
 fn count_pieces(last: u32, olds: &[u32; BLOCKS], dues: &[u32; BLOCKS], count: u32) -> u32
     requires { ⌜ (count ≤ 65) × NoneFalls (now olds) (now dues) ⌝ }
     ensures few { λ r. ⌜ r ≤ 65 ⌝ }
-    ensures counted { λ r. ⌜ ((t : Table) (s : Shape) (c : ℕ) → Shares t s last (now (olds .entry)) (now (dues .entry))
-        → r ≡ length (piecesOf t s c 0 count)) ⌝ }
+    ensures counted { λ r.
+        ⌜
+        ((t : Table) (s : Shape) (c : ℕ) → Shares t s last (now (olds .entry)) (now (dues .entry)) → r ≡ length (piecesOf t s c 0 count))
+        ⌝ }
 {
     let mut pieces: u32 = 0;
     let mut j: usize = 0;

@@ -29,9 +29,8 @@ pub fn write_interval(
     requires { ⌜ Room (o + 1) (now ends) (now blocks) (now adjustments) ⌝ }
     ensures { λ _.
         ⌜
-        Stored o (interval end block adjustment ∷ [])
-        (now (ends .entry)) (now (blocks .entry)) (now (adjustments .entry))
-        (now (ends .exit)) (now (blocks .exit)) (now (adjustments .exit))
+        Stored o (interval end block adjustment ∷ []) (now (ends .entry)) (now (blocks .entry)) (now (adjustments .entry)) (now (ends .exit))
+        (now (blocks .exit)) (now (adjustments .exit))
         ⌝ }
 {
     ends[o] = end;
@@ -55,9 +54,8 @@ fn write_two(
     requires { ⌜ Room (o + 2) (now ends) (now blocks) (now adjustments) ⌝ }
     ensures { λ _.
         ⌜
-        Stored o (interval end block adjustment ∷ interval «next_end» «next_block» «next_adjustment» ∷ [])
-        (now (ends .entry)) (now (blocks .entry)) (now (adjustments .entry))
-        (now (ends .exit)) (now (blocks .exit)) (now (adjustments .exit))
+        Stored o (interval end block adjustment ∷ interval «next_end» «next_block» «next_adjustment» ∷ []) (now (ends .entry))
+        (now (blocks .entry)) (now (adjustments .entry)) (now (ends .exit)) (now (blocks .exit)) (now (adjustments .exit))
         ⌝ }
 {
     write_interval(end, block, adjustment, o, ends, blocks, adjustments);
@@ -87,15 +85,12 @@ fn write_stay(
     adjustments: &mut [u32],
 ) -> usize
     requires { ⌜ (block < g) × (moved ≤ end) × (end + left < 2 ^ 32) ⌝ }
-    requires { ⌜
-        Room (o + length (made (staying moved) (interval end block adjustment) g left)) (now ends) (now blocks) (now adjustments)
-        ⌝ }
+    requires { ⌜ Room (o + length (made (staying moved) (interval end block adjustment) g left)) (now ends) (now blocks) (now adjustments) ⌝ }
     ensures place { λ r. ⌜ r ≡ o + length (made (staying moved) (interval end block adjustment) g left) ⌝ }
     ensures stored { λ _.
         ⌜
-        Stored o (made (staying moved) (interval end block adjustment) g left)
-        (now (ends .entry)) (now (blocks .entry)) (now (adjustments .entry))
-        (now (ends .exit)) (now (blocks .exit)) (now (adjustments .exit))
+        Stored o (made (staying moved) (interval end block adjustment) g left) (now (ends .entry)) (now (blocks .entry))
+        (now (adjustments .entry)) (now (ends .exit)) (now (blocks .exit)) (now (adjustments .exit))
         ⌝ }
 {
     if left == 0 {
@@ -136,8 +131,7 @@ fn write_parts(
     ensures place { λ r. ⌜ r ≡ o + length (made plan (interval end block adjustment) g left) ⌝ }
     ensures stored { λ _.
         ⌜
-        Stored o (made plan (interval end block adjustment) g left)
-        (now (ends .entry)) (now (blocks .entry)) (now (adjustments .entry))
+        Stored o (made plan (interval end block adjustment) g left) (now (ends .entry)) (now (blocks .entry)) (now (adjustments .entry))
         (now (ends .exit)) (now (blocks .exit)) (now (adjustments .exit))
         ⌝ }
 {
@@ -195,8 +189,7 @@ pub fn write_drained(
 )
     requires { ⌜
         Some
-        (DrainsInto (now «new_ends») (now «new_blocks») (now «new_adjustments»)
-        h (now ends) (now blocks) (now adjustments) buckets (now dues))
+        (DrainsInto (now «new_ends») (now «new_blocks») (now «new_adjustments») h (now ends) (now blocks) (now adjustments) buckets (now dues))
         ⌝ }
     ensures { λ _. ⌜ ((tops : List ℕ) (bins : ℕ)
         → Drains h (now (ends .entry)) (now (blocks .entry)) (now (adjustments .entry)) buckets (now (dues .entry)) tops bins

@@ -30,14 +30,7 @@ pub fn growth_refusal(
     bins: u32,
 ) -> u32
     requires { ⌜ LentSound h tops ends blocks adjustments ⌝ }
-    ensures { λ r.
-        ⌜
-        r
-        ≡ first
-        (growthTests
-        (tableGiven h tops ends blocks adjustments)
-        (sizes buckets bins))
-        ⌝ }
+    ensures { λ r. ⌜ r ≡ first (growthTests (tableGiven h tops ends blocks adjustments) (sizes buckets bins)) ⌝ }
 {
     let refusal = size_refusal(buckets, bins);
     if refusal != 0 {
@@ -87,7 +80,9 @@ fn block_dues(tops: &[u32], count: usize, buckets: u32, bins: u32, dues: &mut [u
     requires { ⌜ now dues ≡ replicate maxBlocks 0 ⌝ }
     ensures cells { λ _. ⌜ length (now (dues .exit)) ≡ maxBlocks ⌝ }
     ensures due { λ _.
-        ⌜ ((j : ℕ) → j < 65 → getD (now (dues .exit)) j 0 ≡ dueOfBlock (sizes buckets bins) (take count (now (tops .entry))) j) ⌝ }
+        ⌜
+        ((j : ℕ) → j < 65 → getD (now (dues .exit)) j 0 ≡ dueOfBlock (sizes buckets bins) (take count (now (tops .entry))) j)
+        ⌝ }
 {
     let quotient = buckets / bins;
     let remainder = buckets % bins;
@@ -112,12 +107,7 @@ pub fn dues_before(
 )
     requires { ⌜ LentSound h tops ends blocks adjustments ⌝ }
     requires { ⌜ now olds ≡ replicate maxBlocks 0 ⌝ }
-    ensures { λ _.
-        ⌜
-        DuesBefore
-        (tableGiven h tops ends blocks adjustments)
-        (now (olds .exit))
-        ⌝ }
+    ensures { λ _. ⌜ DuesBefore (tableGiven h tops ends blocks adjustments) (now (olds .exit)) ⌝ }
 {
     let bins = bin_count(h, tops, ends, blocks, adjustments);
     block_dues(tops, h.block_count as usize, h.buckets, bins, olds);
@@ -137,13 +127,7 @@ pub fn dues_after(
     requires { ⌜ LentSound h tops ends blocks adjustments ⌝ }
     requires { ⌜ first (growthTests (tableNow h tops ends blocks adjustments) (sizes buckets bins)) ≡ 0 ⌝ }
     requires { ⌜ now dues ≡ replicate maxBlocks 0 ⌝ }
-    ensures { λ _.
-        ⌜
-        DuesAfter
-        (tableGiven h tops ends blocks adjustments)
-        (sizes buckets bins)
-        (now (dues .exit))
-        ⌝ }
+    ensures { λ _. ⌜ DuesAfter (tableGiven h tops ends blocks adjustments) (sizes buckets bins) (now (dues .exit)) ⌝ }
 {
     let old = bin_count(h, tops, ends, blocks, adjustments);
     block_dues(tops, h.block_count as usize, buckets, bins, dues);
@@ -155,8 +139,10 @@ pub fn dues_after(
 // Whether some of the `count` old blocks is due less than it has, from the dues before and after the growth.
 pub fn some_fall(count: u32, olds: &[u32; BLOCKS], dues: &[u32; BLOCKS]) -> bool
     requires { ⌜ count ≤ maxBlocks ⌝ }
-    ensures { λ r. ⌜ ((t : Table) (s : Shape) → length (t .tops) ≡ count → DuesBefore t (now (olds .entry))
-        → DuesAfter t s (now (dues .entry)) → r ≡ someFall t s) ⌝ }
+    ensures { λ r.
+        ⌜
+        ((t : Table) (s : Shape) → length (t .tops) ≡ count → DuesBefore t (now (olds .entry)) → DuesAfter t s (now (dues .entry)) → r ≡ someFall t s)
+        ⌝ }
 {
     let mut j: usize = 0;
     while j < count as usize {
@@ -212,12 +198,8 @@ pub fn plan_at(
     requires { ⌜ IntervalAt (now ends) (now blocks) (now adjustments) i start moved ⌝ }
     ensures { λ r.
         ⌜
-        r
-        ≡ plan
-        (getD (now (dues .entry)) (getD (now (blocks .entry)) i 0) 0)
-        start
-        (interval (getD (now (ends .entry)) i 0) (getD (now (blocks .entry)) i 0) (getD (now (adjustments .entry)) i 0))
-        moved
+        r ≡ plan (getD (now (dues .entry)) (getD (now (blocks .entry)) i 0) 0) start
+        (interval (getD (now (ends .entry)) i 0) (getD (now (blocks .entry)) i 0) (getD (now (adjustments .entry)) i 0)) moved
         ⌝ }
 {
     plan_interval(

@@ -33,11 +33,7 @@ fn write_pieces(
     new_blocks: &mut [u32],
     new_adjustments: &mut [u32],
 )
-    requires { ⌜
-        Some
-        (PiecesInto (now «new_ends») (now «new_blocks») (now «new_adjustments»)
-        last (now olds) (now dues) count start place)
-        ⌝ }
+    requires { ⌜ Some (PiecesInto (now «new_ends») (now «new_blocks») (now «new_adjustments») last (now olds) (now dues) count start place) ⌝ }
     ensures { λ _. ⌜ ((t : Table) (s : Shape) → Shares t s last (now (olds .entry)) (now (dues .entry))
         → Stored place (piecesOf t s start 0 count)
         (now («new_ends» .entry)) (now («new_blocks» .entry)) (now («new_adjustments» .entry))
@@ -80,8 +76,7 @@ fn copy_intervals(
     requires { ⌜ count ≤ maxIntervals ⌝ }
     requires { ⌜ Room count (now ends) (now blocks) (now adjustments) ⌝ }
     requires { ⌜ Room count (now «new_ends») (now «new_blocks») (now «new_adjustments») ⌝ }
-    ensures { λ _.
-        ⌜ Copied count ends «new_ends» × Copied count blocks «new_blocks» × Copied count adjustments «new_adjustments» ⌝ }
+    ensures { λ _. ⌜ Copied count ends «new_ends» × Copied count blocks «new_blocks» × Copied count adjustments «new_adjustments» ⌝ }
 {
     copy(ends, count, new_ends);
     copy(blocks, count, new_blocks);
@@ -240,11 +235,8 @@ pub fn write_expanded(
     requires { ⌜ length (expanded (tableNow h tops ends blocks adjustments) (sizes buckets bins) .intervals) ≤ maxIntervals ⌝ }
     ensures { λ _.
         ⌜
-        left «new_tops» «new_ends» «new_blocks» «new_adjustments»
-        ≡ written
-        (expanded
-        (tableGiven h tops ends blocks adjustments)
-        (sizes buckets bins))
+        left «new_tops» «new_ends» «new_blocks» «new_adjustments» ≡ written
+        (expanded (tableGiven h tops ends blocks adjustments) (sizes buckets bins))
         (given «new_tops» «new_ends» «new_blocks» «new_adjustments»)
         ⌝ }
 {

@@ -49,10 +49,10 @@ fn copy_numbers(f: &[u8], first: usize, count: usize, out: &mut [u32])
 
 // Decodes a file's tops, ends and blocks over the first entries of arrays.
 fn decode(f: &[u8], h: Header, tops: &mut [u32], ends: &mut [u32], blocks: &mut [u32])
-    requires { ⌜ (Counted (now f) h)
-        × (h .«block_count» ≤ length (now tops))
-        × (h .«interval_count» ≤ length (now ends))
-        × (h .«interval_count» ≤ length (now blocks)) ⌝ }
+    requires { ⌜
+        (Counted (now f) h) × (h .«block_count» ≤ length (now tops)) × (h .«interval_count» ≤ length (now ends)) ×
+        (h .«interval_count» ≤ length (now blocks))
+        ⌝ }
     ensures tops { λ _. ⌜ now (tops .exit) ≡ over (fileArrays (now (f .entry)) h .tops) (now (tops .entry)) ⌝ }
     ensures ends { λ _. ⌜ now (ends .exit) ≡ over (fileArrays (now (f .entry)) h .ends) (now (ends .entry)) ⌝ }
     ensures blocks { λ _. ⌜ now (blocks .exit) ≡ over (fileArrays (now (f .entry)) h .blocks) (now (blocks .entry)) ⌝ }
@@ -80,8 +80,8 @@ fn settle(
     requires { ⌜ (h .«interval_count» ≤ length (now «own_adjustments»)) × (roomShort (arraysNow tops ends blocks adjustments) ≡ false) ⌝ }
     ensures { λ r.
         ⌜
-        Settled h (now («own_tops» .entry)) (now («own_ends» .entry)) (now («own_blocks» .entry))
-        (given tops ends blocks adjustments) r (left tops ends blocks adjustments)
+        Settled h (now («own_tops» .entry)) (now («own_ends» .entry)) (now («own_blocks» .entry)) (given tops ends blocks adjustments) r
+        (left tops ends blocks adjustments)
         ⌝ }
 {
     let broken = complete(h, own_tops, own_ends, own_blocks, own_adjustments);

@@ -24,12 +24,14 @@ fn put_numbers(xs: &[u32], count: usize, out: &mut [u8], at: usize)
 
 // Writes a table: B, G, k, the G tops, then two parallel arrays, k ends and k blocks.
 pub fn write_saved(h: Header, tops: &[u32], ends: &[u32], blocks: &[u32], out: &mut [u8])
-    requires { ⌜ (h .«block_count» ≤ length (now tops))
-        × (h .«interval_count» ≤ length (now ends))
-        × (h .«interval_count» ≤ length (now blocks))
-        × (savedLength (h .«block_count») (h .«interval_count») ≤ length (now out)) ⌝ }
-    ensures { λ _. ⌜ now (out .exit)
-        ≡ over (saved (table h (arrays (now (tops .entry)) (now (ends .entry)) (now (blocks .entry)) []))) (now (out .entry)) ⌝ }
+    requires { ⌜
+        (h .«block_count» ≤ length (now tops)) × (h .«interval_count» ≤ length (now ends)) × (h .«interval_count» ≤ length (now blocks)) ×
+        (savedLength (h .«block_count») (h .«interval_count») ≤ length (now out))
+        ⌝ }
+    ensures { λ _.
+        ⌜
+        now (out .exit) ≡ over (saved (table h (arrays (now (tops .entry)) (now (ends .entry)) (now (blocks .entry)) []))) (now (out .entry))
+        ⌝ }
 {
     let block_count = h.block_count as usize;
     let interval_count = h.interval_count as usize;

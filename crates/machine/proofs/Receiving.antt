@@ -1,23 +1,23 @@
 -- A machine that begins, bytes received, and the first bytes of an unfinished line kept. Assumes nothing.
-use Prim.Native.Nat.{ℕ, suc, _+_, _-_, _≤_, _<_}
+use Prim.Native.Nat.{ℕ, _+_, _-_, _≤_, _<_}
 use mathlib.Core.Path.{_≡_, refl, sym, _∙_, ap, subst}
 use mathlib.Core.Bool.{false, true≢false, false≢true}
 use mathlib.Core.Logic.{_⊎_, ⊎-elim}
-use mathlib.Core.List.{List, [], _∷_, _++_, append-nil}
+use mathlib.Core.List.{List, [], _∷_, _++_}
 use native.Mathlib.Numerals.{add-one}
 use native.Mathlib.Omega.{arith}
 use lib.ListN.{length, getD, set, take, drop, length-take, length-drop, length-set, drop-of-length-le}
 use lib.Seq.{take-all, take-add, take-suc-set, length-take-le, drop-append-le, getD-take, getD-drop, getD-append-add}
 use Rattle.model.specs.Basics.{if_then_else_}
-use Rattle.model.specs.Table.{Arrays, over}
+use Rattle.model.specs.Table.{over}
 use Rattle.model.proofs.Entries.{Put, put-none, put-more, put-over}
 use Rattle.lines.specs.Words.{upTo}
 use Rattle.session.specs.Maps.{isEmpty, isGrown, sessionAt, session}
 use Rattle.session.specs.declared.state.Stage.the-variants.{Empty}
 use Rattle.print.proofs.Stores.{take-next}
 use Rattle.console.specs.Rack.{rack, held}
-use Rattle.machine.specs.Standing.{heard, received}
-use Rattle.machine.specs.Machine.{keptBytes, stands, bytesOf, Sane, Ready, Begins, Receives}
+use Rattle.machine.specs.Standing.{heard}
+use Rattle.machine.specs.Machine.{keptBytes, stands, bytesOf, Begins, Receives}
 use Rattle.machine.specs.declared.Machine.{Machine}
 
 -- a machine that begins

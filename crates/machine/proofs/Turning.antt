@@ -1,9 +1,8 @@
 -- The machine's parts of a turn: a page, a line, the end of a block. Assumes nothing.
-use Prim.Native.Nat.{ℕ, suc, _+_, _-_, _*_, _/_, _≤_, _<_}
+use Prim.Native.Nat.{ℕ, suc, _+_, _-_, _≤_, _<_}
 use mathlib.Core.Path.{_≡_, refl, sym, _∙_, ap, ap₂, subst}
-use mathlib.Core.Bool.{Bool, true, false, not, true≢false, false≢true}
+use mathlib.Core.Bool.{Bool, true, false, true≢false, false≢true}
 use mathlib.Core.List.{List, [], _∷_, _++_, append-assoc}
-use native.Mathlib.Numerals.{add-one}
 use native.Mathlib.Omega.{arith}
 use lib.ListN.{length, take, drop, length-append, length-take, length-drop}
 use lib.Seq.{sets, sets-eq, length-sets, take-all, take-at, length-take-le, drop-drop}
@@ -26,7 +25,7 @@ use Rattle.console.specs.Listing.{Listed}
 use Rattle.console.specs.declared.Reply.{Reply}
 use Rattle.console.specs.declared.Page.{Page}
 use Rattle.console.proofs.Serving.{shown-short}
-use Rattle.machine.specs.Standing.{Standing, Goes, Idle, Turned}
+use Rattle.machine.specs.Standing.{Goes, Idle}
 use Rattle.machine.specs.Machine.{keptBytes, stands, bytesOf, Sane, Ready, Went, Pages, Answers, Turns}
 use Rattle.machine.specs.declared.Machine.{Machine}
 use Rattle.machine.specs.declared.After.{After}

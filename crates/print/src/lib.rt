@@ -104,10 +104,11 @@ pub fn put_move(
     at: usize,
 ) -> usize
     requires { ⌜ at + lineRoom ≤ length (now out) ⌝ }
-    ensures place { λ r. ⌜ r ≡ at
-        + length (line "move" (bucket ∷ «old_bin» ∷ «old_position» ∷ «new_bin» ∷ «new_position» ∷ [])) ⌝ }
-    ensures bytes { λ _. ⌜ now (out .exit)
-        ≡ sets (now (out .entry)) at (line "move" (bucket ∷ «old_bin» ∷ «old_position» ∷ «new_bin» ∷ «new_position» ∷ [])) ⌝ }
+    ensures place { λ r. ⌜ r ≡ at + length (line "move" (bucket ∷ «old_bin» ∷ «old_position» ∷ «new_bin» ∷ «new_position» ∷ [])) ⌝ }
+    ensures bytes { λ _.
+        ⌜
+        now (out .exit) ≡ sets (now (out .entry)) at (line "move" (bucket ∷ «old_bin» ∷ «old_position» ∷ «new_bin» ∷ «new_position» ∷ []))
+        ⌝ }
 {
     put_line(
         b"move",

@@ -77,8 +77,7 @@ fn write_row(
     requires { ⌜ at + 5 ≤ length (now rows) ⌝ }
     ensures { λ _.
         ⌜
-        now (rows .exit)
-        ≡ sets (now (rows .entry)) at (bucket ∷ «old_bin» ∷ «old_position» ∷ «new_bin» ∷ «new_position» ∷ [])
+        now (rows .exit) ≡ sets (now (rows .entry)) at (bucket ∷ «old_bin» ∷ «old_position» ∷ «new_bin» ∷ «new_position» ∷ [])
         ⌝ }
 {
     rows[at] = bucket;
@@ -92,8 +91,7 @@ fn write_row(
 fn write_span(old: Placing, new: Placing, bucket: u32, end: u32, at: usize, rows: &mut [u32])
     requires { ⌜ Places old bucket × Places new bucket ⌝ }
     requires { ⌜ (bucket ≤ end) × (5 * (at + (end - bucket)) ≤ length (now rows)) ⌝ }
-    ensures { λ _.
-        ⌜ now (rows .exit) ≡ withRows at (from (placedRow old new) bucket (end - bucket)) (now (rows .entry)) ⌝ }
+    ensures { λ _. ⌜ now (rows .exit) ≡ withRows at (from (placedRow old new) bucket (end - bucket)) (now (rows .entry)) ⌝ }
 {
     let old_last = old.first + old.bins - 1;
     let new_last = new.first + new.bins - 1;
@@ -134,8 +132,7 @@ fn write_part(old: Placing, new: Placing, bucket: u32, end: u32, first: u32, row
     requires { ⌜ Part old new bucket end (bucket - new .adjustment) ⌝ }
     ensures { λ _.
         ⌜
-        now (rows .exit)
-        ≡ paged first (bucket - new .adjustment) (from (placedRow old new) bucket (end - bucket)) (now (rows .entry))
+        now (rows .exit) ≡ paged first (bucket - new .adjustment) (from (placedRow old new) bucket (end - bucket)) (now (rows .entry))
         ⌝ }
 {
     let moved = bucket - new.adjustment;
@@ -202,10 +199,8 @@ fn placing_of(tops: &[u32], block: usize, adjustment: u32) -> Placing
     requires { ⌜ (block < length (now tops)) × (entryBefore (now tops) block ≤ getD (now tops) block 0) ⌝ }
     ensures { λ r.
         ⌜
-        r
-        ≡ placing (entryBefore (now (tops .entry)) block)
-        (getD (now (tops .entry)) block 0 - entryBefore (now (tops .entry)) block)
-        adjustment
+        r ≡ placing (entryBefore (now (tops .entry)) block)
+        (getD (now (tops .entry)) block 0 - entryBefore (now (tops .entry)) block) adjustment
         ⌝ }
 {
     let first = before(tops, block);
@@ -305,13 +300,11 @@ pub fn write_relocations(
     requires { ⌜ first + left ≡ length (movesOf (tableNow h tops ends blocks adjustments) (sizes buckets bins)) ⌝ }
     ensures { λ r.
         ⌜
-        r
-        ≡ length (page first (length (now (rows .entry))) (movesOf (tableGiven h tops ends blocks adjustments) (sizes buckets bins)))
+        r ≡ length (page first (length (now (rows .entry))) (movesOf (tableGiven h tops ends blocks adjustments) (sizes buckets bins)))
         ⌝ }
     ensures { λ _.
         ⌜
-        now (rows .exit)
-        ≡ over
+        now (rows .exit) ≡ over
         (joined (page first (length (now (rows .entry))) (movesOf (tableGiven h tops ends blocks adjustments) (sizes buckets bins))))
         (now (rows .entry))
         ⌝ }

@@ -107,7 +107,12 @@ module _ (m : Maps) where
   unfolding answered flips next answer if_then_else_
   told-step c a z w e g p k =
       let yes = eq-eqb (commandRefusal (session m) c) 0 e in
-      subst (λ z. Stepped m c z (m .this) (m .other)) (sym w) (record { answer = rw (yes, k); flip = rw (g, and-false (eqb (commandRefusal (session m) c) 0)); maps = rw (yes, p) })
+      subst (λ z. Stepped m c z (m .this) (m .other)) (sym w) (record {
+        answer =
+            rw (yes, k);
+        flip = rw (g, and-false (eqb (commandRefusal (session m) c) 0));
+        maps = rw (yes, p);
+      })
 
   -- a step by a command, which is another
   pub step-of : {c d : Command} {z : Step} {a b : Arrays} → c ≡ d → Stepped m d z a b → Stepped m c z a b

@@ -58,12 +58,7 @@ fn fresh(
     adjustments: &mut [u32],
 ) -> Step
     requires { ⌜ roomShort (arraysNow tops ends blocks adjustments) ≡ false ⌝ }
-    ensures { λ r.
-        ⌜
-        Renews state (given tops ends blocks adjustments)
-        (line.Fresh buckets bins) r
-        (left tops ends blocks adjustments)
-        ⌝ }
+    ensures { λ r. ⌜ Renews state (given tops ends blocks adjustments) (line.Fresh buckets bins) r (left tops ends blocks adjustments) ⌝ }
 {
     let wrong = sizes::size_refusal(buckets, bins);
     if wrong != 0 {
@@ -109,13 +104,8 @@ fn grow(
     requires { ⌜ roomShort (arraysNow «new_tops» «new_ends» «new_blocks» «new_adjustments») ≡ false ⌝ }
     ensures { λ r.
         ⌜
-        Stepped
-        (maps state
-        (given tops ends blocks adjustments)
-        (given «new_tops» «new_ends» «new_blocks» «new_adjustments»))
-        (line.Grow buckets bins) r
-        (given tops ends blocks adjustments)
-        (left «new_tops» «new_ends» «new_blocks» «new_adjustments»)
+        Stepped (maps state (given tops ends blocks adjustments) (given «new_tops» «new_ends» «new_blocks» «new_adjustments»))
+        (line.Grow buckets bins) r (given tops ends blocks adjustments) (left «new_tops» «new_ends» «new_blocks» «new_adjustments»)
         ⌝ }
 {
     if is_empty(state) {
@@ -247,20 +237,13 @@ pub fn act(
     other_adjustments: &mut [u32],
 ) -> Step
     requires { ⌜
-        Right
-        (maps state
-        (arraysNow tops ends blocks adjustments)
-        (arraysNow «other_tops» «other_ends» «other_blocks» «other_adjustments»))
+        Right (maps state (arraysNow tops ends blocks adjustments) (arraysNow «other_tops» «other_ends» «other_blocks» «other_adjustments»))
         ⌝ }
     ensures { λ r.
         ⌜
         Stepped
-        (maps state
-        (given tops ends blocks adjustments)
-        (given «other_tops» «other_ends» «other_blocks» «other_adjustments»))
-        command r
-        (left tops ends blocks adjustments)
-        (left «other_tops» «other_ends» «other_blocks» «other_adjustments»)
+        (maps state (given tops ends blocks adjustments) (given «other_tops» «other_ends» «other_blocks» «other_adjustments»)) command r
+        (left tops ends blocks adjustments) (left «other_tops» «other_ends» «other_blocks» «other_adjustments»)
         ⌝ }
 {
     match command {

@@ -61,12 +61,7 @@ pub fn write_initial(
     adjustments: &mut [u32],
 )
     requires { ⌜ roomShort (arraysNow tops ends blocks adjustments) ≡ false ⌝ }
-    ensures { λ _.
-        ⌜
-        left tops ends blocks adjustments
-        ≡ written (initial (sizes buckets bins))
-        (given tops ends blocks adjustments)
-        ⌝ }
+    ensures { λ _. ⌜ left tops ends blocks adjustments ≡ written (initial (sizes buckets bins)) (given tops ends blocks adjustments) ⌝ }
 {
     tops[0] = bins;
     ends[0] = buckets;

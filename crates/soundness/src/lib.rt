@@ -158,11 +158,14 @@ fn walked(
     adjustments: &[u32],
     sums: &mut [u32; BLOCKS],
 ) -> bool
-    requires { ⌜ (IntervalsRight h (now ends) (now blocks))
-        × (h .«interval_count» ≤ length (now adjustments))
-        × (now sums ≡ replicate maxBlocks 0) ⌝ }
-    ensures { λ r. ⌜ (r ≡ adjustmentsWrong h (arrays [] (now (ends .entry)) (now (blocks .entry)) (now (adjustments .entry))))
-        × (r ≡ false → Held h (now (ends .entry)) (now (blocks .entry)) (now (sums .exit))) ⌝ }
+    requires { ⌜
+        (IntervalsRight h (now ends) (now blocks)) × (h .«interval_count» ≤ length (now adjustments)) × (now sums ≡ replicate maxBlocks 0)
+        ⌝ }
+    ensures { λ r.
+        ⌜
+        (r ≡ adjustmentsWrong h (arrays [] (now (ends .entry)) (now (blocks .entry)) (now (adjustments .entry)))) ×
+        (r ≡ false → Held h (now (ends .entry)) (now (blocks .entry)) (now (sums .exit)))
+        ⌝ }
 {
     let mut bad: u32 = 0;
     let mut start: u32 = 0;
@@ -202,8 +205,10 @@ fn summed(h: Header, ends: &[u32], blocks: &[u32]) -> [u32; BLOCKS]
 // 15: a block whose intervals hold another number than its due. `sums` is what each block holds.
 fn holdings_wrong(h: Header, tops: &[u32], sums: &[u32; BLOCKS]) -> bool
     requires { ⌜ TopsRight h (now tops) ⌝ }
-    ensures { λ r. ⌜ ((ends blocks : List ℕ) → Held h ends blocks (now (sums .entry))
-        → r ≡ holdingsWrong h (arrays (now (tops .entry)) ends blocks [])) ⌝ }
+    ensures { λ r.
+        ⌜
+        ((ends blocks : List ℕ) → Held h ends blocks (now (sums .entry)) → r ≡ holdingsWrong h (arrays (now (tops .entry)) ends blocks []))
+        ⌝ }
 {
     let bins = tops[h.block_count as usize - 1];
     let quotient = h.buckets / bins;
@@ -257,9 +262,9 @@ fn adjust(
     adjustments: &mut [u32],
     sums: &mut [u32; BLOCKS],
 )
-    requires { ⌜ (IntervalsRight h (now ends) (now blocks))
-        × (h .«interval_count» ≤ length (now adjustments))
-        × (now sums ≡ replicate maxBlocks 0) ⌝ }
+    requires { ⌜
+        (IntervalsRight h (now ends) (now blocks)) × (h .«interval_count» ≤ length (now adjustments)) × (now sums ≡ replicate maxBlocks 0)
+        ⌝ }
     ensures { λ _. ⌜ (Held h (now (ends .entry)) (now (blocks .entry)) (now (sums .exit)))
         × (now (adjustments .exit)
         ≡ over (from (adjustmentOf h (arrays [] (now (ends .entry)) (now (blocks .entry)) [])) 0 (h .«interval_count»))
@@ -288,7 +293,10 @@ pub fn complete(
     adjustments: &mut [u32],
 ) -> u32
     requires { ⌜ (Counted h (now tops) (now ends) (now blocks)) × (h .«interval_count» ≤ length (now adjustments)) ⌝ }
-    ensures { λ r. ⌜ Completed h (now (tops .entry)) (now (ends .entry)) (now (blocks .entry)) (now (adjustments .entry)) r (now (adjustments .exit)) ⌝ }
+    ensures { λ r.
+        ⌜
+        Completed h (now (tops .entry)) (now (ends .entry)) (now (blocks .entry)) (now (adjustments .entry)) r (now (adjustments .exit))
+        ⌝ }
 {
     let broken = layout_refusal(h, tops, ends, blocks);
     if broken != 0 {

@@ -1,5 +1,6 @@
 -- `expansion_count::piece` meets its contract. Assumes nothing.
 use mathlib.Core.Path.{sym}
+use native.Mathlib.Omega.{arith}
 use Rattle.expansion_count.proofs.Pieces.{piece-last, piece-gained}
 use borrow.Author.Needs.{needs}
 use Rattle.expansion_count.proofs.piece.Statement.{statement}
@@ -21,7 +22,7 @@ element-copy-out-result-2 : tie.Need-element-copy-out-result-2
 element-copy-out-result-2 c = search needs
 
 sub-result : tie.Need-sub-result
-sub-result c = let start = c .before .before .before in start .pre .1 (start .args .j) (start .pre .0)
+sub-result c = let start = c .before .before .before in omega (arith, start .pre .1 (start .args .j) (start .pre .0))
 
 returns-2 : tie.Need-returns-2
 returns-2 c t s shares = sym (piece-gained shares _ (c .before .before .before .pre .0) (c .before .before .if1 .left))

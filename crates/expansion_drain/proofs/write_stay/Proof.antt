@@ -19,7 +19,7 @@ abbrev ours : tie.Start → List Interval
 ours s = made (staying (s .args .moved)) (is s) (s .args .g) (s .args .left)
 
 alone : (c : tie.Then1) → let s = c .before .before .before .before in ours s ≡ is s ∷ []
-alone c = let s = c .before .before .before .before in made-stay _ (is s) (s .args .g) (s .args .left) refl (s .pre .0 .0) (c .if1 .taken)
+alone c = let s = c .before .before .before .before in made-stay _ (is s) (s .args .g) (s .args .left) refl (s .pre .0 .0) (omega (arith, c .if1 .taken))
 
 fresh
     : (c : tie.Else1)
@@ -27,7 +27,7 @@ fresh
     ours s ≡ is s ∷ interval (s .args .end + s .args .left) (s .args .g) (s .args .end - s .args .moved) ∷ []
 fresh c =
     let s = c .before .before .before .before in
-    made-fresh (staying (s .args .moved)) (is s) (s .args .g) (s .args .left) refl (s .pre .0 .0) (c .if1 .left)
+    made-fresh (staying (s .args .moved)) (is s) (s .args .g) (s .args .left) refl (s .pre .0 .0) (λ z. omega (arith, c .if1 .left))
 
 write-interval-requires : tie.Need-write-interval-requires
 write-interval-requires c κs = let arm = c .before .before .before in rw (alone arm) at (arm .before .before .before .before .pre .1)

@@ -27,7 +27,8 @@ same-length-2 c = search needs
 returns : tie.Need-returns
 unfolding sizesOf
 returns c =
-    let pre = c .before .before .before .before .before .before .before .before .before .before .before .before .before .before .before .before .before .before .pre in
+    let pre = c .before .before .before .before .before .before .before .before .before .before .before .before .before .before .before .before
+    .before .before .pre in
     let text = c .before .before .put-rows .ensures in
     moves-listed _ _ _ _ _ _ (c .before .before .before .before .before .before .before .before .relocated .ensures) _ (pre .1) refl
     _ _ _ _ _ (pre .0 .1) (text .0) (text .1) (omega arith) (omega arith)

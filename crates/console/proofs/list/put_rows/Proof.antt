@@ -65,7 +65,13 @@ shared-slice-read-put-move-5 c = omega arith
 put-move-requires : tie.Need-put-move-requires Inv-loop μ-loop
 put-move-requires c κs =
     let turn = c .before .before .before .before .before .before .before .loop in
-    omega (arith, turn .inv .2 .place, put-length (turn .inv .2), text-short (c .before .before .before .before .before .before .before .before .before .before .args .rows .now) (turn .i))
+    omega (
+      arith,
+      turn .inv .2 .place,
+      put-length (turn .inv .2),
+      text-short
+          (c .before .before .before .before .before .before .before .before .before .before .args .rows .now) (turn .i),
+    )
 
 add-row : tie.Need-add-row Inv-loop μ-loop
 add-row c = omega arith

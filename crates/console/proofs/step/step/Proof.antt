@@ -8,7 +8,9 @@ read-requires : tie.Need-read-requires
 read-requires c κs = search needs
 
 act-requires : tie.Need-act-requires
-act-requires c κs = let map = c .before .before .before .before .before .before .before .before in second-right _ _ _ (map .if1 .taken) (map .before .before .before .before .pre .1)
+act-requires c κs =
+    let map = c .before .before .before .before .before .before .before .before in
+    second-right _ _ _ (map .if1 .taken) (map .before .before .before .before .pre .1)
 
 reply-requires : tie.Need-reply-requires
 reply-requires c κs = c .before .before .before .before .before .before .before .before .before .before .before .before .before .before .pre .0
@@ -24,7 +26,9 @@ returns c =
     (c .before .before .before .before .act .ensures)
 
 act-requires-2 : tie.Need-act-requires-2
-act-requires-2 c κs = let map = c .before .before .before .before .before .before .before .before in first-right _ _ _ (map .if1 .left) (map .before .before .before .before .pre .1)
+act-requires-2 c κs =
+    let map = c .before .before .before .before .before .before .before .before in
+    first-right _ _ _ (map .if1 .left) (map .before .before .before .before .pre .1)
 
 reply-requires-2 : tie.Need-reply-requires-2
 reply-requires-2 c κs = c .before .before .before .before .before .before .before .before .before .before .before .before .before .before .pre .0

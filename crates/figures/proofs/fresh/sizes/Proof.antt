@@ -1,8 +1,6 @@
 -- `figures::fresh::sizes` meets its contract. Assumes nothing.
-use Prim.Native.Nat.{_+_, _-_, _≤_}
-use mathlib.Core.Path.{_≡_}
+use Prim.Native.Nat.{_-_, _≤_}
 use borrow.Author.Needs.{needs}
-use lib.ListN.{length}
 use Rattle.figures.proofs.fresh.sizes.Statement.{statement}
 use Rattle.figures.proofs.fresh.sizes.Tie as tie
 

@@ -53,7 +53,9 @@ same-length-4 : tie.Need-same-length-4
 same-length-4 c = search needs
 
 returns : tie.Need-returns
-returns c = step-of _ (c .before .before .before .before .before .before .before .before .before .before .before .before .before .before .command .given .1) (c .before .before .before .before .before .before .before .before .fresh .ensures _)
+returns c =
+    step-of _ (c .before .before .before .before .before .before .before .before .before .before .before .before .before .before .command .given .1)
+    (c .before .before .before .before .before .before .before .before .fresh .ensures _)
 
 same-length-5 : tie.Need-same-length-5
 same-length-5 c = search needs
@@ -80,7 +82,9 @@ same-length-12 : tie.Need-same-length-12
 same-length-12 c = search needs
 
 returns-2 : tie.Need-returns-2
-returns-2 c = step-of _ (c .before .before .before .before .before .before .before .before .before .before .before .before .before .before .before .before .before .before .command2 .given .1) (c .before .before .before .before .before .before .before .before .grow .ensures)
+returns-2 c =
+    step-of _ (c .before .before .before .before .before .before .before .before .before .before .before .before .before .before .before .before
+    .before .before .command2 .given .1) (c .before .before .before .before .before .before .before .before .grow .ensures)
 
 same-length-13 : tie.Need-same-length-13
 same-length-13 c = search needs

@@ -28,7 +28,8 @@ returns-2 : tie.Need-returns-2
 unfolding mapOf
 returns-2 c other =
     refused-step (maps _ _ other) (At _ _) _ _ (c .refused2 .ensures)
-    (find-refusal (maps _ _ other) (sym (c .before .before .before .before .before .before .is-empty .ensures) ∙ c .before .before .before .before .before .if1 .left) _ _ _ (c .before .before .before .found .ensures))
+    (find-refusal (maps _ _ other) (sym (c .before .before .before .before .before .before .is-empty .ensures) ∙ c .before .before .before .before
+    .before .if1 .left) _ _ _ (c .before .before .before .found .ensures))
     (c .before .if2 .taken)
 
 told-requires : tie.Need-told-requires

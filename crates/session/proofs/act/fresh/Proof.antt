@@ -14,7 +14,9 @@ refused-requires : tie.Need-refused-requires
 refused-requires c κs = search needs
 
 returns : tie.Need-returns
-returns c other = refused-step (maps _ _ other) (Fresh _ _) _ _ (c .refused .ensures) (fresh-refusal (maps _ _ other) _ _ ∙ sym (c .before .before .size-refusal .ensures)) (c .before .if1 .taken)
+returns c other =
+    refused-step (maps _ _ other) (Fresh _ _) _ _ (c .refused .ensures)
+    (fresh-refusal (maps _ _ other) _ _ ∙ sym (c .before .before .size-refusal .ensures)) (c .before .if1 .taken)
 
 write-initial-requires : tie.Need-write-initial-requires
 write-initial-requires c κs = search needs
@@ -32,7 +34,10 @@ same-length-4 : tie.Need-same-length-4
 same-length-4 c = search needs
 
 returns-2 : tie.Need-returns-2
-returns-2 c other = fresh-step (maps _ _ other) _ _ _ _ (c .before .before .before .before .before .before .before .before .before .before .before .before .before .before .before .size-refusal .ensures) (c .before .before .before .before .before .before .before .before .before .before .before .before .before .before .if1 .left) (c .before .before .before .before .before .before .before .before .before .write-initial .ensures)
+returns-2 c other =
+    fresh-step (maps _ _ other) _ _ _ _ (c .before .before .before .before .before .before .before .before .before .before .before .before .before
+    .before .before .size-refusal .ensures) (c .before .before .before .before .before .before .before .before .before .before .before .before .before
+    .before .if1 .left) (c .before .before .before .before .before .before .before .before .before .write-initial .ensures)
 
 pub fresh-spec : {M : Type 1} → statement M
 fresh-spec =

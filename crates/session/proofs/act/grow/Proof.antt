@@ -19,7 +19,12 @@ unfolding isFresh
 returns c = empty-step _ (Grow _ _) _ refl (c .refused .ensures) (sym (c .before .before .is-empty .ensures) ∙ c .before .if1 .taken)
 
 grown-requires : tie.Need-grown-requires
-grown-requires c κs = (c .before .before .before .before .before .before .before .before .before .before .before .before .before .before .before .pre .0 (sym (c .before .before .before .before .before .before .is-empty .ensures) ∙ c .before .before .before .before .before .if1 .left), c .before .before .before .before .before .before .before .before .before .before .before .before .before .before .before .pre .1)
+grown-requires c κs = (
+  c .before .before .before .before .before .before .before .before .before .before .before .before .before .before .before .pre .0
+      (sym (c .before .before .before .before .before .before .is-empty .ensures) ∙ c .before .before .before .before .before .if1 .left),
+  c .before
+      .before .before .before .before .before .before .before .before .before .before .before .before .before .before .pre .1,
+)
 
 refused-requires-2 : tie.Need-refused-requires-2
 refused-requires-2 c κs = search needs
@@ -39,7 +44,10 @@ same-length-4 c = search needs
 returns-2 : tie.Need-returns-2
 unfolding mapOf
 returns-2 c =
-    grow-refused _ (sym (c .before .before .before .before .before .before .before .before .before .before .before .before .before .before .before .before .before .before .is-empty .ensures) ∙ c .before .before .before .before .before .before .before .before .before .before .before .before .before .before .before .before .before .if1 .left) _ _ _ _ (c .before .before .before .before .before .before .before .before .before .before .before .grown .ensures)
+    grow-refused _ (sym (c .before .before .before .before .before .before .before .before .before .before .before .before .before .before .before
+    .before .before .before .is-empty .ensures) ∙ c .before .before .before .before .before .before .before .before .before .before .before .before
+    .before .before .before .before .before .if1 .left) _ _ _ _
+    (c .before .before .before .before .before .before .before .before .before .before .before .grown .ensures)
     _ (c .refused2 .ensures) (c .before .if2 .taken)
 
 same-length-5 : tie.Need-same-length-5
@@ -57,7 +65,10 @@ same-length-8 c = search needs
 returns-3 : tie.Need-returns-3
 unfolding mapOf
 returns-3 c =
-    grow-step _ (sym (c .before .before .before .before .before .before .before .before .before .before .before .before .before .before .before .before .before .before .before .is-empty .ensures) ∙ c .before .before .before .before .before .before .before .before .before .before .before .before .before .before .before .before .before .before .if1 .left) _ _ _ _ (c .before .before .before .before .before .before .before .before .before .before .before .before .grown .ensures)
+    grow-step _ (sym (c .before .before .before .before .before .before .before .before .before .before .before .before .before .before .before
+    .before .before .before .before .is-empty .ensures) ∙ c .before .before .before .before .before .before .before .before .before .before .before
+    .before .before .before .before .before .before .before .if1 .left) _ _ _ _
+    (c .before .before .before .before .before .before .before .before .before .before .before .before .grown .ensures)
     (c .before .before .if2 .left)
 
 pub grow-spec : {M : Type 1} → statement M

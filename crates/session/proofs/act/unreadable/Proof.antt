@@ -16,7 +16,8 @@ refused-requires c κs = search needs
 
 returns : tie.Need-returns
 unfolding isFresh
-returns c this other = empty-step (maps _ this other) Unreadable _ refl (c .refused .ensures) (sym (c .before .before .is-empty .ensures) ∙ c .before .if1 .taken)
+returns c this other =
+    empty-step (maps _ this other) Unreadable _ refl (c .refused .ensures) (sym (c .before .before .is-empty .ensures) ∙ c .before .if1 .taken)
 
 refused-requires-2 : tie.Need-refused-requires-2
 refused-requires-2 c κs = search needs
