@@ -130,7 +130,12 @@ fn load_by(
     )
 }
 
-// A file of at most 64 intervals: small arrays, which are cleared quickly.
+// The intervals, and the blocks, of a file that small arrays do for.
+const FEW: usize = 32;
+
+const FEW_AT_MOST: u32 = 32;
+
+// A file of few intervals and blocks: small arrays, which are cleared quickly.
 fn load_few(
     f: &[u8],
     h: Header,
@@ -140,13 +145,13 @@ fn load_few(
     adjustments: &mut [u32],
 ) -> u32
     requires { ⌜ Opened (now f) h (arraysNow tops ends blocks adjustments) ⌝ }
-    requires { ⌜ h .«interval_count» ≤ 64 ⌝ }
+    requires { ⌜ (h .«interval_count» ≤ 32) × (h .«block_count» ≤ 32) ⌝ }
     ensures { λ r. ⌜ Loaded (now (f .entry)) (given tops ends blocks adjustments) r (left tops ends blocks adjustments) ⌝ }
 {
-    let mut own_tops = [0u32; BLOCKS];
-    let mut own_ends = [0u32; 64];
-    let mut own_blocks = [0u32; 64];
-    let mut own_adjustments = [0u32; 64];
+    let mut own_tops = [0u32; FEW];
+    let mut own_ends = [0u32; FEW];
+    let mut own_blocks = [0u32; FEW];
+    let mut own_adjustments = [0u32; FEW];
     load_by(
         f,
         h,
@@ -231,10 +236,14 @@ pub fn loaded(
         };
     }
     let h = header_of(f);
-    if h.interval_count <= 64 {
-        let refusal = load_few(f, h, tops, ends, blocks, adjustments);
+    if FEW_AT_MOST < h.interval_count {
+        let refusal = load_many(f, h, tops, ends, blocks, adjustments);
         return reply(refusal, h);
     }
-    let refusal = load_many(f, h, tops, ends, blocks, adjustments);
+    if FEW_AT_MOST < h.block_count {
+        let refusal = load_many(f, h, tops, ends, blocks, adjustments);
+        return reply(refusal, h);
+    }
+    let refusal = load_few(f, h, tops, ends, blocks, adjustments);
     reply(refusal, h)
 }

@@ -36,8 +36,8 @@ ready c = opened _ _ _ (c .header-of .ensures) (passes (c .before)) (start (c .b
 header-of-requires : tie.Need-header-of-requires
 header-of-requires c κs = let k = counted _ _ refl (passes c) in omega arith
 
-load-few-requires : tie.Need-load-few-requires
-load-few-requires c κs = (ready (c .before .before .before .before .before .before), c .before .before .before .before .if2 .taken)
+load-many-requires : tie.Need-load-many-requires
+load-many-requires c κs = ready (c .before .before .before .before .before .before)
 
 reply-requires : tie.Need-reply-requires
 reply-requires c κs = search needs
@@ -56,12 +56,11 @@ same-length-4 c = search needs
 
 returns-2 : tie.Need-returns-2
 returns-2 c =
-    loaded-replied _ _ _ _ _ _ (c .before .before .before .before .before .before .before .before .before .before .before .before .before .before
-    .before .before .header-of .ensures) (c .before .before .before .before .before .before .before .before .before .load-few .ensures)
-    (c .reply .ensures)
+    let called = c .before .before .before .before .before .before .before .before .before in
+    loaded-replied _ _ _ _ _ _ (called .before .before .before .before .before .before .before .header-of .ensures) (called .load-many .ensures) (c .reply .ensures)
 
-load-many-requires : tie.Need-load-many-requires
-load-many-requires c κs = ready (c .before .before .before .before .before .before)
+load-many-requires-2 : tie.Need-load-many-requires-2
+load-many-requires-2 c κs = ready (c .before .before .before .before .before .before .before .before)
 
 reply-requires-2 : tie.Need-reply-requires-2
 reply-requires-2 c κs = search needs
@@ -80,9 +79,31 @@ same-length-8 c = search needs
 
 returns-3 : tie.Need-returns-3
 returns-3 c =
-    loaded-replied _ _ _ _ _ _ (c .before .before .before .before .before .before .before .before .before .before .before .before .before .before
-    .before .before .header-of .ensures) (c .before .before .before .before .before .before .before .before .before .load-many .ensures)
-    (c .reply2 .ensures)
+    let called = c .before .before .before .before .before .before .before .before .before in
+    loaded-replied _ _ _ _ _ _ (called .before .before .before .before .before .before .before .before .before .header-of .ensures) (called .load-many2 .ensures) (c .reply2 .ensures)
+
+load-few-requires : tie.Need-load-few-requires
+load-few-requires c κs = (ready (c .before .before .before .before .before .before .before .before), (c .before .before .before .before .before .before .if2 .left, c .before .before .before .before .if3 .left))
+
+reply-requires-3 : tie.Need-reply-requires-3
+reply-requires-3 c κs = search needs
+
+same-length-9 : tie.Need-same-length-9
+same-length-9 c = search needs
+
+same-length-10 : tie.Need-same-length-10
+same-length-10 c = search needs
+
+same-length-11 : tie.Need-same-length-11
+same-length-11 c = search needs
+
+same-length-12 : tie.Need-same-length-12
+same-length-12 c = search needs
+
+returns-4 : tie.Need-returns-4
+returns-4 c =
+    let called = c .before .before .before .before .before .before .before .before .before in
+    loaded-replied _ _ _ _ _ _ (called .before .before .before .before .before .before .before .before .before .header-of .ensures) (called .load-few .ensures) (c .reply3 .ensures)
 
 pub loaded-spec : {M : Type 1} → statement M
 loaded-spec =
@@ -91,17 +112,24 @@ loaded-spec =
     file-wrong-requires
     returns
     header-of-requires
-    load-few-requires
+    load-many-requires
     reply-requires
     same-length
     same-length-2
     same-length-3
     same-length-4
     returns-2
-    load-many-requires
+    load-many-requires-2
     reply-requires-2
     same-length-5
     same-length-6
     same-length-7
     same-length-8
-    returns-3)
+    returns-3
+    load-few-requires
+    reply-requires-3
+    same-length-9
+    same-length-10
+    same-length-11
+    same-length-12
+    returns-4)
