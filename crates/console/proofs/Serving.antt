@@ -7,18 +7,18 @@ use mathlib.Core.Logic.{⊎-elim}
 use native.Mathlib.Omega.{arith}
 use lib.ListN.{length}
 use lib.Seq.{sets}
-use Rattle.model.specs.Basics.{if_then_else_}
+use Rattle.model.specs.Basics.{if_then_else_, joined}
 use Rattle.model.specs.Table.{Arrays, table}
 use Rattle.model.specs.Sound.{Sound}
-use Rattle.model.specs.Console.{text, read, movesOf}
+use Rattle.model.specs.Console.{text, read, movesOf, moveText, commandAnswer, answerText}
 use Rattle.model.proofs.Counts.{bit-cases}
+use Rattle.model.specs.declared.answer.Answer.{Answer}
+use Rattle.model.specs.declared.answer.Answer.the-variants.{Refused, Table, Place, Bucket, Moves}
 use Rattle.model.specs.declared.command.Command.{Command}
-use Rattle.session.specs.Maps.{maps, isGrown, beforeOf, session, next, answered, shown, isList, Stepped, sizesOf, Right}
+use Rattle.session.specs.Maps.{maps, isGrown, beforeOf, session, next, shown, isList, Stepped, sizesOf, Right}
 use Rattle.session.specs.declared.state.Stage.the-variants.{Grown}
 use Rattle.session.specs.declared.state.State.{State}
 use Rattle.session.specs.declared.state.Step.{Step}
-use Rattle.session.specs.declared.state.Answer.{Answer}
-use Rattle.session.specs.declared.state.Answer.the-variants.{Refused, Table, Place, Bucket, Moves}
 use Rattle.session.proofs.Steps.{step-flipped}
 use Rattle.print.specs.Numbers.{lineRoom}
 use Rattle.print.proofs.Lines.{line-short}
@@ -42,7 +42,7 @@ told-reply d x y old new vs e l p b = rw (e, l, p, b) (refl, refl)
 
 -- what is printed at once is short
 pub shown-short : (a : Answer) → length (shown a) ≤ lineRoom
-unfolding shown text
+unfolding shown answerText movesOf moveText joined text
 shown-short (Refused r) = omega (arith, line-short "refused" (r ∷ []))
 shown-short (Table m k) = omega (arith, line-short "ok" (m ∷ k ∷ []))
 shown-short (Place y p) = omega (arith, line-short "place" (y ∷ p ∷ []))
@@ -59,7 +59,7 @@ served
     → Served k l x old r (rack (r .state) one two) new
 unfolding answerTo
 served k l c d this other one two r x old new q s h e b =
-    let same : d .answer ≡ answerTo k l = s .answer ∙ ap (answered (session (held k))) q in
+    let same : d .answer ≡ answerTo k l = s .answer ∙ ap (commandAnswer (session (held k))) q in
     record {
       maps = ap (λ (r : Reply). held (rack (r .state) one two)) e ∙ h ∙ s .maps ∙ ap (next (held k)) q;
       list = ap (λ (r : Reply). r .list) e ∙ ap isList same;

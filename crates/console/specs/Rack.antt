@@ -7,10 +7,10 @@ use lib.Seq.{sets}
 use Rattle.model.specs.Basics.{if_then_else_}
 use Rattle.model.specs.Table.{Arrays}
 use Rattle.model.specs.Lent.{Lent, Lents, arraysNow, given, left}
-use Rattle.model.specs.Console.{read, movesOf}
-use Rattle.session.specs.Maps.{Maps, maps, session, next, answered, shown, isList, Right}
+use Rattle.model.specs.Console.{read, movesOf, commandAnswer}
+use Rattle.model.specs.declared.answer.Answer.{Answer}
+use Rattle.session.specs.Maps.{Maps, maps, session, next, shown, isList, Right}
 use Rattle.session.specs.declared.state.State.{State}
-use Rattle.session.specs.declared.state.Answer.{Answer}
 use Rattle.console.specs.declared.Reply.{Reply}
 
 -- the state, and the two tables; the map is in the second one where they are flipped
@@ -45,7 +45,7 @@ movesIn k = movesOf (session (held k))
 
 -- the answer to a line
 unfoldable pub answerTo : Rack → List ℕ → Answer
-answerTo k l = answered (session (held k)) (read l)
+answerTo k l = commandAnswer (session (held k)) (read l)
 
 -- a line l served: its reply r and the rack k′ after it; what it prints at once is stored in a buffer from place x on
 pub record Served (k : Rack) (l : List ℕ) (x : ℕ) (old : List ℕ) (r : Reply) (k′ : Rack) (new : List ℕ) : Type 0 where

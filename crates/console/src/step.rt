@@ -1,5 +1,6 @@
 // One line: read, done, and answered.
 use crate::Reply;
+use model::answer::Answer;
 use model::limits::BLOCKS;
 use model::limits::INTERVALS;
 use print::put_bucket;
@@ -7,7 +8,6 @@ use print::put_ok;
 use print::put_place;
 use print::put_refused;
 use session::act::act;
-use session::state::Answer;
 use session::state::State;
 use session::state::Step;
 ghost use mathlib.Core.Path.{_≡_};

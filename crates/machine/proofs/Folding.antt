@@ -6,7 +6,8 @@ use mathlib.Core.List.{List, [], _∷_, _++_, append-nil, append-assoc}
 use native.Mathlib.Omega.{arith}
 use lib.ListN.{length, length-append}
 use Rattle.model.specs.Basics.{if_then_else_, joined}
-use Rattle.model.specs.Console.{Session, text, linesOf, wordsOf, same, command, read as says, line, commandRefusal, after, printed, printedAll, output}
+use Rattle.model.specs.Console.{Session, text, linesOf, wordsOf, same, command, read as says, line, commandRefusal}
+use Rattle.model.specs.Console.{commandAnswer, answerText, after, printed, printedAll, output}
 use Rattle.model.specs.declared.command.Command.the-variants.{Unreadable}
 use Rattle.model.proofs.Refusals.{refused}
 use Rattle.lines.specs.Words.{upToFeed}
@@ -20,9 +21,9 @@ use Rattle.machine.specs.Claims.{Pieces, turn, read, close, stop, Output
 
 -- a line of no bytes prints something
 printed-none : (s : Session) → 0 < length (printed s [])
-unfolding says wordsOf same command printed line text if_then_else_
+unfolding says wordsOf same command printed commandAnswer answerText line text if_then_else_
 printed-none s =
-    let e : printed s [] ≡ line "refused" (commandRefusal s Unreadable ∷ []) = refused _ _ _ (unreadable-refused s) in
+    let e : printed s [] ≡ line "refused" (commandRefusal s Unreadable ∷ []) = ap (answerText s) (refused _ _ _ (unreadable-refused s)) in
     omega (arith, ap length e)
 
 -- an unfinished line is a line at the end of the input, as with a line feed

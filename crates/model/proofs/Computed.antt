@@ -5,12 +5,21 @@ use Rattle.model.specs.Table.{bins, shape, firstBin, blockBins, table, h
 use Rattle.model.specs.Place.{intervalOf, blockOf, rank, bin, position, held, others, size, binSize}
 use Rattle.model.specs.Search.{intervalAt, indexOf, located, placeOf, placeAt, blockOfBin, rankAt, includes, holder, foundOf, heldAt, foundAt}
 use Rattle.model.specs.Due.{due, dueOfBins, dueOfBlock}
-use Rattle.model.specs.Refusal.{first, searched, outside, rises, headerOutside, arraysShort, topsWrong, endsWrong, blocksWrong, holdingsWrong, adjustmentOf, adjustmentsWrong, sizeOutside, fewBuckets, shrinks, unchanged, blocksFull, bucketPast, binPast, roomShort}
+use Rattle.model.specs.Refusal.{first, searched, outside, rises, headerOutside, arraysShort, topsWrong, endsWrong, blocksWrong}
+use Rattle.model.specs.Refusal.{holdingsWrong, adjustmentOf, adjustmentsWrong, sizeOutside, fewBuckets, shrinks, unchanged}
+use Rattle.model.specs.Refusal.{blocksFull, bucketPast, binPast, roomShort}
 use Rattle.model.specs.Initial.{initial}
-use Rattle.model.specs.Expansion.{newTops, has, dueAfter, someFall, lastBlock, lengthened, gain, pieces, filled, plan, parts, planFor, parted, movedAfter, extended, drained, expanded, differs, moved}
+use Rattle.model.specs.Expansion.{newTops, has, dueAfter, someFall, lastBlock, lengthened, gain, pieces, filled, plan, parts, planFor}
+use Rattle.model.specs.Expansion.{parted, movedAfter, extended, drained, expanded, differs, moved}
 use Rattle.model.specs.Relocations.{row, rowIf, rows, page}
-use Rattle.model.specs.Calls.{answer, tableTests, sizeTests, growthTests, intervalsFull, tableReply, arraysAfter, initialRefusal, initialReply, initialArrays, expandRefusal, expandReply, expandArrays, relocationsAnswer, bufferAfter, orderTests, rowsOf, relocationsRefusal, relocationsReply, relocationsRows, placeAnswer, findAnswer, binSizeAnswer, placeTests, findTests, binSizeTests, placeReply, findReply, binSizeReply, roomRefusal, roomReply, saveTests, saveRefusal, saveReply, saveBytes, loadTests, loadRefusal, loadReply, loadArrays}
-use Rattle.model.specs.Console.{text, inFront, linesOf, wordsOf, same, digitsOnly, valueFrom, value, isNumber, command, read, digits, decimal, line, noMap, current, isFresh, isUnreadable, commandTests, commandRefusal, movesOf, moveText, accepted, acceptedText, after, printed, printedAll, output}
+use Rattle.model.specs.Calls.{answer, tableTests, sizeTests, growthTests, intervalsFull, tableReply, arraysAfter, initialRefusal}
+use Rattle.model.specs.Calls.{initialReply, initialArrays, expandRefusal, expandReply, expandArrays, relocationsAnswer, bufferAfter}
+use Rattle.model.specs.Calls.{orderTests, rowsOf, relocationsRefusal, relocationsReply, relocationsRows, placeAnswer, findAnswer}
+use Rattle.model.specs.Calls.{binSizeAnswer, placeTests, findTests, binSizeTests, placeReply, findReply, binSizeReply, roomRefusal}
+use Rattle.model.specs.Calls.{roomReply, saveTests, saveRefusal, saveReply, saveBytes, loadTests, loadRefusal, loadReply, loadArrays}
+use Rattle.model.specs.Console.{text, inFront, linesOf, wordsOf, same, digitsOnly, valueFrom, value, isNumber, command, read, digits}
+use Rattle.model.specs.Console.{decimal, line, noMap, current, isFresh, isUnreadable, commandTests, commandRefusal, movesOf, moveText}
+use Rattle.model.specs.Console.{accepted, acceptedAnswer, commandAnswer, answerText, after, printed, printedAll, output}
 use Rattle.model.specs.History.{started, replyOf, next, added, played, handedOn}
 use Rattle.model.specs.Figures.{blank, grown, answered, computed, starred}
 use Rattle.model.specs.Claims.{Figures, Listing}
@@ -28,8 +37,8 @@ unfolding if_then_else_ _and_ _or_ bit sum count all from joined before bins sha
     binSizeTests placeReply findReply binSizeReply roomRefusal roomReply saveTests saveRefusal saveReply saveBytes
     loadTests loadRefusal loadReply loadArrays text inFront linesOf wordsOf same digitsOnly valueFrom value isNumber
     command read digits decimal line noMap current isFresh isUnreadable commandTests commandRefusal movesOf moveText accepted
-    acceptedText after printed printedAll output started replyOf next added played handedOn blank grown
-    answered computed starred
+    acceptedAnswer commandAnswer answerText after printed printedAll output started replyOf next added played handedOn
+    blank grown answered computed starred
 figures = refl
 
 pub listing : Listing
@@ -45,6 +54,6 @@ unfolding if_then_else_ _and_ _or_ bit sum count all from joined before bins sha
     binSizeTests placeReply findReply binSizeReply roomRefusal roomReply saveTests saveRefusal saveReply saveBytes
     loadTests loadRefusal loadReply loadArrays text inFront linesOf wordsOf same digitsOnly valueFrom value isNumber
     command read digits decimal line noMap current isFresh isUnreadable commandTests commandRefusal movesOf moveText accepted
-    acceptedText after printed printedAll output started replyOf next added played handedOn blank grown
-    answered computed starred
+    acceptedAnswer commandAnswer answerText after printed printedAll output started replyOf next added played handedOn
+    blank grown answered computed starred
 listing = refl

@@ -14,6 +14,8 @@ use Rattle.model.specs.Initial.{initial}
 use Rattle.model.specs.Expansion.{expanded, moved}
 use Rattle.model.specs.Relocations.{rows}
 use Rattle.model.specs.Calls.{answer, sizeTests, growthTests, intervalsFull, placeTests, findTests}
+use Rattle.model.specs.declared.answer.Answer.{Answer}
+use Rattle.model.specs.declared.answer.Answer.the-variants as says
 use Rattle.model.specs.declared.command.Command.{Command}
 use Rattle.model.specs.declared.command.Command.the-variants.{Fresh, Grow, Where, At, Moves, Unreadable}
 
@@ -149,7 +151,7 @@ movesOf (grown t u) = rows t u
 unfoldable pub moveText : List (List ℕ) → List ℕ
 moveText rs = joined (map (line "move") rs)
 
--- an accepted command: the session after it, and what is printed
+-- what an accepted command leaves, and what it answers; an unreadable line is not accepted
 unfoldable pub accepted : Session → Command → Session
 accepted s (Fresh b n) = fresh (initial (sizes b n))
 accepted s (Grow b n) = grown (current s) (expanded (current s) (sizes b n))
@@ -158,25 +160,35 @@ accepted s (At y p) = s
 accepted s Moves = s
 accepted s Unreadable = s
 
-unfoldable pub acceptedText : Session → Command → List ℕ
-acceptedText s (Fresh b n) = line "ok" (0 ∷ length (initial (sizes b n) .intervals) ∷ [])
-acceptedText s (Grow b n) =
-    line "ok"
-    (moved (current s) (expanded (current s) (sizes b n))
-    ∷ length (expanded (current s) (sizes b n) .intervals)
-    ∷ [])
-acceptedText s (Where x) = line "place" (placeAt (current s) x .bin ∷ placeAt (current s) x .position ∷ [])
-acceptedText s (At y p) = line "bucket" (foundAt (current s) y p .bucket ∷ [])
-acceptedText s Moves = moveText (movesOf s)
-acceptedText s Unreadable = []
+unfoldable pub acceptedAnswer : Session → Command → Answer
+acceptedAnswer s (Fresh b n) = says.Table 0 (length (initial (sizes b n) .intervals))
+acceptedAnswer s (Grow b n) =
+    says.Table
+    (moved (current s) (expanded (current s) (sizes b n)))
+    (length (expanded (current s) (sizes b n) .intervals))
+acceptedAnswer s (Where x) = says.Place (placeAt (current s) x .bin) (placeAt (current s) x .position)
+acceptedAnswer s (At y p) = says.Bucket (foundAt (current s) y p .bucket)
+acceptedAnswer s Moves = says.Moves
+acceptedAnswer s Unreadable = says.Refused 23
+
+-- the answer to a command
+unfoldable pub commandAnswer : Session → Command → Answer
+commandAnswer s c = answer (commandRefusal s c) (acceptedAnswer s c) (says.Refused (commandRefusal s c))
+
+-- what an answer prints; `moves` the lines of the latest growth
+unfoldable pub answerText : Session → Answer → List ℕ
+answerText s (says.Refused r) = line "refused" (r ∷ [])
+answerText s (says.Table m k) = line "ok" (m ∷ k ∷ [])
+answerText s (says.Place y p) = line "place" (y ∷ p ∷ [])
+answerText s (says.Bucket x) = line "bucket" (x ∷ [])
+answerText s says.Moves = moveText (movesOf s)
 
 -- a line: the session after it, and what is printed; a refused line changes nothing
 unfoldable pub after : Session → List ℕ → Session
 after s l = answer (commandRefusal s (read l)) (accepted s (read l)) s
 
 unfoldable pub printed : Session → List ℕ → List ℕ
-printed s l =
-    answer (commandRefusal s (read l)) (acceptedText s (read l)) (line "refused" (commandRefusal s (read l) ∷ []))
+printed s l = answerText s (commandAnswer s (read l))
 
 -- all lines of an input: the session after them, and what is printed
 unfoldable pub afterAll : Session → List (List ℕ) → Session

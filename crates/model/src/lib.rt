@@ -3,6 +3,7 @@ ghost use Rattle.model.specs.Claims.{Claims};
 ghost use Rattle.model.specs.TableClaims.{TableClaims};
 ghost use Rattle.model.specs.ExpansionClaims.{ExpansionClaims};
 
+pub mod answer;
 pub mod command;
 pub mod limits;
 pub mod plan;

@@ -5,26 +5,27 @@ use mathlib.Core.Bool.{true, not, true≢false}
 use mathlib.Core.List.{List, [], _∷_, _++_, append-nil}
 use native.Mathlib.Decide.{ℕ-discrete}
 use native.Mathlib.Omega.{arith}
-use Rattle.model.specs.Basics.{if_then_else_, _and_}
+use Rattle.model.specs.Basics.{if_then_else_, _and_, joined}
 use Rattle.model.specs.Initial.{initial}
 use Rattle.model.specs.Expansion.{expanded}
 use Rattle.model.specs.Calls.{answer}
 use Rattle.model.specs.Table.{sizes}
-use Rattle.model.specs.Console.{Session, fresh, noMap, isFresh, isUnreadable, commandRefusal, read, line, accepted as acceptedSession, acceptedText, after, printed}
+use Rattle.model.specs.Console.{Session, fresh, noMap, isFresh, isUnreadable, commandRefusal, read, movesOf, moveText}
+use Rattle.model.specs.Console.{accepted, acceptedAnswer, commandAnswer, answerText, after, printed}
+use Rattle.model.specs.declared.answer.Answer.{Answer}
+use Rattle.model.specs.declared.answer.Answer.the-variants as says
 use Rattle.model.specs.declared.command.Command.{Command}
 use Rattle.model.specs.declared.command.Command.the-variants.{Fresh, Grow, Where, At, Moves, Unreadable}
 use Rattle.model.proofs.Refusals.{first-clear, accepted as answer-accepted, refused as answer-refused}
 use Rattle.model.proofs.Tables.{table-written}
-use Rattle.session.specs.Maps.{Maps, mapOf, beforeOf, sessionAt, session, performed, next, accepted, answered, shown, isList, listed}
+use Rattle.session.specs.Maps.{Maps, mapOf, beforeOf, sessionAt, session, performed, next, shown, isList, listed}
 use Rattle.session.specs.Claims.{SessionKept, SessionSpoken}
-use Rattle.session.specs.declared.state.Answer.{Answer}
-use Rattle.session.specs.declared.state.Answer.the-variants as says
 use Rattle.session.proofs.Steps.{map-current, has-map}
 
 -- an accepted step leaves document 01's session
 performed-kept
-    : (m : Maps) (c : Command) → commandRefusal (session m) c ≡ 0 → session (performed m c) ≡ acceptedSession (session m) c
-unfolding performed acceptedSession session sessionAt mapOf beforeOf isFresh
+    : (m : Maps) (c : Command) → commandRefusal (session m) c ≡ 0 → session (performed m c) ≡ accepted (session m) c
+unfolding performed accepted session sessionAt mapOf beforeOf isFresh
 performed-kept m (Fresh b n) e = ap fresh (table-written (initial (sizes b n)) (m .this))
 performed-kept m (Grow b n) e =
     let here = map-current (m .state .stage) (beforeOf m) (mapOf m) (has-map m (Grow b n) refl e) in
@@ -41,15 +42,44 @@ session-kept m l =
       | yes e ↦
           ap session (answer-accepted _ _ _ e)
           ∙ performed-kept m (read l) e
-          ∙ sym (answer-accepted (commandRefusal (session m) (read l)) (acceptedSession (session m) (read l)) (session m) e)
+          ∙ sym (answer-accepted (commandRefusal (session m) (read l)) (accepted (session m) (read l)) (session m) e)
       | no n ↦
           ap session (answer-refused _ _ _ n)
-          ∙ sym (answer-refused (commandRefusal (session m) (read l)) (acceptedSession (session m) (read l)) (session m) n)
+          ∙ sym (answer-refused (commandRefusal (session m) (read l)) (accepted (session m) (read l)) (session m) n)
     ]
 
--- its answer is printed as document 01 prints it
+-- its answer is printed as document 01 prints it: `move` lines follow only where the session stays as it is
 abbrev spoken : Session → Answer → List ℕ
 spoken s a = shown a ++ listed (isList a) 0 s
+
+accepted-spoken : (s : Session) (c : Command) → spoken (accepted s c) (acceptedAnswer s c) ≡ answerText s (acceptedAnswer s c)
+unfolding shown isList listed if_then_else_ answerText movesOf moveText joined accepted acceptedAnswer
+accepted-spoken s (Fresh b n) = append-nil _
+accepted-spoken s (Grow b n) = append-nil _
+accepted-spoken s (Where x) = append-nil _
+accepted-spoken s (At y p) = append-nil _
+accepted-spoken s Moves = refl
+accepted-spoken s Unreadable = append-nil _
+
+refused-spoken : (s : Session) (r : ℕ) → spoken s (says.Refused r) ≡ answerText s (says.Refused r)
+unfolding shown isList listed if_then_else_ answerText
+refused-spoken s r = append-nil _
+
+pub session-spoken : SessionSpoken
+unfolding after printed commandAnswer
+session-spoken s l =
+    elim (ℕ-discrete (commandRefusal s (read l)) 0) [
+      | yes e ↦
+          let same = answer-accepted _ (acceptedAnswer s (read l)) (says.Refused (commandRefusal s (read l))) e in
+          ap₂ spoken (answer-accepted _ (accepted s (read l)) s e) same
+          ∙ accepted-spoken s (read l)
+          ∙ sym (ap (answerText s) same)
+      | no n ↦
+          let same = answer-refused _ (acceptedAnswer s (read l)) (says.Refused (commandRefusal s (read l))) n in
+          ap₂ spoken (answer-refused _ (accepted s (read l)) s n) same
+          ∙ refused-spoken s (commandRefusal s (read l))
+          ∙ sym (ap (answerText s) same)
+    ]
 
 -- a line that says nothing is refused
 pub unreadable-refused : (s : Session) → commandRefusal s Unreadable ≡ 0 → ⊥
@@ -57,31 +87,3 @@ unfolding commandRefusal isUnreadable
 unreadable-refused s e =
     let (none, rest) = first-clear (10, noMap s and not (isFresh Unreadable)) _ (λ z. omega arith) e in
     true≢false (first-clear (23, true) _ (λ z. omega arith) rest .0)
-
-accepted-spoken
-    : (s : Session) (c : Command) → commandRefusal s c ≡ 0 → spoken (acceptedSession s c) (accepted s c) ≡ acceptedText s c
-unfolding shown isList listed if_then_else_ acceptedSession accepted acceptedText
-accepted-spoken s (Fresh b n) e = append-nil _
-accepted-spoken s (Grow b n) e = append-nil _
-accepted-spoken s (Where x) e = append-nil _
-accepted-spoken s (At y p) e = append-nil _
-accepted-spoken s Moves e = refl
-accepted-spoken s Unreadable e = absurd (unreadable-refused s e)
-
-refused-spoken : (s : Session) (r : ℕ) → spoken s (says.Refused r) ≡ line "refused" (r ∷ [])
-unfolding shown isList listed if_then_else_
-refused-spoken s r = append-nil _
-
-pub session-spoken : SessionSpoken
-unfolding after printed answered
-session-spoken s l =
-    elim (ℕ-discrete (commandRefusal s (read l)) 0) [
-      | yes e ↦
-          ap₂ spoken (answer-accepted _ (acceptedSession s (read l)) s e) (answer-accepted _ (accepted s (read l)) _ e)
-          ∙ accepted-spoken s (read l) e
-          ∙ sym (answer-accepted _ (acceptedText s (read l)) _ e)
-      | no n ↦
-          ap (spoken (answer (commandRefusal s (read l)) (acceptedSession s (read l)) s)) (answer-refused _ (accepted s (read l)) _ n)
-          ∙ refused-spoken _ (commandRefusal s (read l))
-          ∙ sym (answer-refused _ (acceptedText s (read l)) _ n)
-    ]

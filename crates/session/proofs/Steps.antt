@@ -15,7 +15,7 @@ use Rattle.model.specs.Search.{placeAt}
 use Rattle.model.specs.Initial.{initial}
 use Rattle.model.specs.Expansion.{expanded, moved}
 use Rattle.model.specs.Calls.{answer, sizeTests, placeTests, findTests, tableReply, arraysAfter, findAnswer}
-use Rattle.model.specs.Console.{noMap, current, isFresh, isUnreadable, commandTests, commandRefusal}
+use Rattle.model.specs.Console.{noMap, current, isFresh, isUnreadable, commandTests, commandRefusal, acceptedAnswer, commandAnswer}
 use Rattle.model.specs.declared.command.Command.{Command}
 use Rattle.model.specs.declared.command.Command.the-variants.{Fresh, Grow, Where, At, Moves, Unreadable}
 use Rattle.model.specs.declared.reply.TableReply.{TableReply}
@@ -26,11 +26,11 @@ use Rattle.model.proofs.Refusals.{accepted as answer-accepted, refused as answe
 use Rattle.model.proofs.Soundness.{arrays-written}
 use Rattle.model.proofs.Searches.{first-searched, found-refusal}
 use Rattle.expansion.specs.Replies.{growRefusal, GrowReply}
-use Rattle.session.specs.Maps.{Maps, maps, isEmpty, mapOf, sessionAt, session, performed, next, isGrow, flips, accepted, answered, Stepped}
+use Rattle.session.specs.Maps.{Maps, maps, isEmpty, mapOf, sessionAt, session, performed, next, isGrow, flips, Stepped}
 use Rattle.session.specs.declared.state.Stage.{Stage}
 use Rattle.session.specs.declared.state.Stage.the-variants as stage
-use Rattle.session.specs.declared.state.Answer.{Answer}
-use Rattle.session.specs.declared.state.Answer.the-variants as says
+use Rattle.model.specs.declared.answer.Answer.{Answer}
+use Rattle.model.specs.declared.answer.Answer.the-variants as says
 use Rattle.session.specs.declared.state.Step.{Step}
 
 -- THE STAGE
@@ -94,7 +94,7 @@ module _ (m : Maps) where
   pub refused-step
       : (c : Command) (r : ℕ) (z : Step) → z ≡ record { state = m .state; flip = false; answer = says.Refused r }
       → commandRefusal (session m) c ≡ r → (r ≡ 0 → ⊥) → Stepped m c z (m .this) (m .other)
-  unfolding answered flips next answer if_then_else_ _and_
+  unfolding commandAnswer flips next answer if_then_else_ _and_
   refused-step c r z w e n =
       let no = ne-eqb r 0 n in
       subst (λ z. Stepped m c z (m .this) (m .other)) (sym w) (record { answer = rw (e, no); flip = rw (e, no); maps = rw (e, no) })
@@ -102,9 +102,9 @@ module _ (m : Maps) where
   -- an accepted one that changes nothing
   pub told-step
       : (c : Command) (a : Answer) (z : Step) → z ≡ record { state = m .state; flip = false; answer = a }
-      → commandRefusal (session m) c ≡ 0 → isGrow c ≡ false → performed m c ≡ m → a ≡ accepted (session m) c
+      → commandRefusal (session m) c ≡ 0 → isGrow c ≡ false → performed m c ≡ m → a ≡ acceptedAnswer (session m) c
       → Stepped m c z (m .this) (m .other)
-  unfolding answered flips next answer if_then_else_
+  unfolding commandAnswer flips next answer if_then_else_
   told-step c a z w e g p k =
       let yes = eq-eqb (commandRefusal (session m) c) 0 e in
       subst (λ z. Stepped m c z (m .this) (m .other)) (sym w) (record {
@@ -128,7 +128,7 @@ module _ (m : Maps) where
   pub moves-step
       : (z : Step) → z ≡ record { state = m .state; flip = false; answer = says.Moves }
       → isEmpty (m .state .stage) ≡ false → Stepped m Moves z (m .this) (m .other)
-  unfolding isUnreadable commandTests first if_then_else_ isGrow performed accepted
+  unfolding isUnreadable commandTests first if_then_else_ isGrow performed acceptedAnswer
   moves-step z w e = told-step Moves says.Moves z w (map-refusal Moves e) refl refl refl
 
   pub unreadable-step
@@ -154,7 +154,7 @@ module _ (m : Maps) where
         answer = says.Table 0 1;
       })
       left (m .other)
-  unfolding answered flips next answer if_then_else_ accepted isGrow performed initial header
+  unfolding commandAnswer flips next answer if_then_else_ acceptedAnswer isGrow performed initial header
   fresh-step b n r left q z w =
       let e : commandRefusal (session m) (Fresh b n) ≡ 0 = fresh-refusal b n ∙ sym q ∙ z in
       let yes = eq-eqb (commandRefusal (session m) (Fresh b n)) 0 e in
@@ -203,7 +203,7 @@ module _ (m : Maps) where
             answer = says.Table (z .moved) (z .header .«interval_count»);
           })
           (m .this) left
-      unfolding answered flips next answer if_then_else_ _and_ accepted isGrow performed header
+      unfolding commandAnswer flips next answer if_then_else_ _and_ acceptedAnswer isGrow performed header
       grow-step q =
           let zero : commandRefusal (session m) (Grow b n) ≡ 0 = grow-refusal ∙ q in
           let yes = eq-eqb (commandRefusal (session m) (Grow b n)) 0 zero in
@@ -220,8 +220,8 @@ module _ (m : Maps) where
           ∙ first-searched (placeAt (mapOf m) x .refusal)
           ∙ sym (ap (λ (y : PlaceReply). y .refusal) p)
 
-      pub place-told : says.Place (z .bin) (z .position) ≡ accepted (session m) (Where x)
-      unfolding accepted
+      pub place-told : says.Place (z .bin) (z .position) ≡ acceptedAnswer (session m) (Where x)
+      unfolding acceptedAnswer
       place-told = rw (here, p)
 
     -- `at`
@@ -239,8 +239,8 @@ module _ (m : Maps) where
           (λ q. found-refusal (mapOf m) y k q ∙ sym q) refl)
           ∙ sym (ap (λ (y : FindReply). y .refusal) p)
 
-      pub find-told : z .refusal ≡ 0 → says.Bucket (z .bucket) ≡ accepted (session m) (At y k)
-      unfolding accepted findAnswer
+      pub find-told : z .refusal ≡ 0 → says.Bucket (z .bucket) ≡ acceptedAnswer (session m) (At y k)
+      unfolding acceptedAnswer findAnswer
       find-told q =
           let zero = sym find-number ∙ find-refusal ∙ q in
           rw (here, p ∙ answer-accepted _ _ _ zero)

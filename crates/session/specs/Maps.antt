@@ -8,19 +8,18 @@ use lib.Dec.{eqb}
 use Rattle.model.specs.Basics.{if_then_else_, _and_}
 use Rattle.model.specs.Table.{Shape, Table, Arrays, table, header, written, sizes}
 use Rattle.model.specs.Refusal.{first, roomShort}
-use Rattle.model.specs.Search.{placeAt, foundAt}
 use Rattle.model.specs.Sound.{Sound}
 use Rattle.model.specs.Initial.{initial}
-use Rattle.model.specs.Expansion.{expanded, moved}
+use Rattle.model.specs.Expansion.{expanded}
 use Rattle.model.specs.Calls.{answer, growthTests}
-use Rattle.model.specs.Console.{Session, empty, fresh, grown, current, commandRefusal, line, movesOf, moveText}
+use Rattle.model.specs.Console.{Session, empty, fresh, grown, commandRefusal, commandAnswer, answerText, movesOf, moveText}
+use Rattle.model.specs.declared.answer.Answer.{Answer}
+use Rattle.model.specs.declared.answer.Answer.the-variants as says
 use Rattle.model.specs.declared.command.Command.{Command}
 use Rattle.model.specs.declared.command.Command.the-variants.{Fresh, Grow, Where, At, Moves, Unreadable}
 use Rattle.session.specs.declared.state.Stage.{Stage}
 use Rattle.session.specs.declared.state.Stage.the-variants as stage
 use Rattle.session.specs.declared.state.State.{State}
-use Rattle.session.specs.declared.state.Answer.{Answer}
-use Rattle.session.specs.declared.state.Answer.the-variants as says
 use Rattle.session.specs.declared.state.Step.{Step}
 
 -- the state, the arrays of the map, and those of the other table
@@ -93,28 +92,9 @@ isGrow Unreadable = false
 unfoldable pub flips : Session → Command → Bool
 flips s c = eqb (commandRefusal s c) 0 and isGrow c
 
--- what a command answers
-unfoldable pub accepted : Session → Command → Answer
-accepted s (Fresh b n) = says.Table 0 (length (initial (sizes b n) .intervals))
-accepted s (Grow b n) =
-    says.Table
-    (moved (current s) (expanded (current s) (sizes b n)))
-    (length (expanded (current s) (sizes b n) .intervals))
-accepted s (Where x) = says.Place (placeAt (current s) x .bin) (placeAt (current s) x .position)
-accepted s (At y p) = says.Bucket (foundAt (current s) y p .bucket)
-accepted s Moves = says.Moves
-accepted s Unreadable = says.Refused 23
-
-unfoldable pub answered : Session → Command → Answer
-answered s c = answer (commandRefusal s c) (accepted s c) (says.Refused (commandRefusal s c))
-
 -- what an answer prints at once, and whether the `move` lines of the latest growth follow
 unfoldable pub shown : Answer → List ℕ
-shown (says.Refused r) = line "refused" (r ∷ [])
-shown (says.Table m k) = line "ok" (m ∷ k ∷ [])
-shown (says.Place y p) = line "place" (y ∷ p ∷ [])
-shown (says.Bucket x) = line "bucket" (x ∷ [])
-shown says.Moves = []
+shown a = answerText empty a
 
 unfoldable pub isList : Answer → Bool
 isList (says.Refused r) = false
@@ -129,7 +109,7 @@ listed follow q s = if follow then moveText (drop q (movesOf s)) else []
 
 -- a step r from m by the command c, which leaves the arrays a (that were the map's) and b (that were the other table's)
 pub record Stepped (m : Maps) (c : Command) (r : Step) (a b : Arrays) : Type 0 where
-  pub answer : r .answer ≡ answered (session m) c
+  pub answer : r .answer ≡ commandAnswer (session m) c
   pub flip : r .flip ≡ flips (session m) c
   pub maps : (if r .flip then maps (r .state) b a else maps (r .state) a b) ≡ next m c
 

@@ -1,8 +1,8 @@
 // One command of a session.
-use crate::state::Answer;
 use crate::state::Stage;
 use crate::state::State;
 use crate::state::Step;
+use model::answer::Answer;
 use model::command::Command;
 use model::table::Header;
 ghost use mathlib.Core.Path.{_≡_};
@@ -10,7 +10,7 @@ ghost use mathlib.Core.Bool.{false};
 ghost use Rattle.model.specs.Lent.{given, left, arraysNow};
 ghost use Rattle.model.specs.Refusal.{roomShort};
 ghost use Rattle.model.specs.declared.command.Command.the-variants as line;
-ghost use Rattle.session.specs.declared.state.Answer.the-variants as says;
+ghost use Rattle.model.specs.declared.answer.Answer.the-variants as says;
 ghost use Rattle.session.specs.Maps.{maps, isEmpty as emptyAt, Mapped, Renews, Reads, Answers, Stepped, Right};
 
 // Whether there is no map.

@@ -1,4 +1,5 @@
-// What a session holds beside its two tables, and what a command answers.
+// What a session holds beside its two tables, and what a command does to it.
+use model::answer::Answer;
 use model::table::Header;
 
 // No map; a fresh map; a map and the one before its latest growth.
@@ -16,15 +17,6 @@ pub struct State {
     pub bins: u32,
     pub current: Header,
     pub before: Header,
-}
-
-// Document 01's printed lines: `refused`, `ok`, `place`, `bucket`, and the `move` lines of the latest growth.
-pub enum Answer {
-    Refused { number: u32 },
-    Table { moved: u32, intervals: u32 },
-    Place { bin: u32, position: u32 },
-    Bucket { bucket: u32 },
-    Moves,
 }
 
 // A command's answer, the state after it, and whether the two tables have changed their parts.

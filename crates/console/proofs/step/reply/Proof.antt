@@ -1,6 +1,8 @@
 -- `console::step::reply` meets its contract: one return for each answer. Assumes nothing.
 use mathlib.Core.Path.{ap}
 use native.Mathlib.Nat.{add-zero}
+use Rattle.model.specs.Basics.{joined}
+use Rattle.model.specs.Console.{answerText, movesOf, moveText}
 use Rattle.session.specs.Maps.{shown, isList}
 use Rattle.console.proofs.Serving.{told-reply}
 use borrow.Author.Needs.{needs}
@@ -38,7 +40,7 @@ same-length : tie.Need-same-length
 same-length c = search needs
 
 returns : tie.Need-returns
-unfolding shown isList
+unfolding shown answerText isList
 returns c =
     let told = c .before .before .put-refused .ensures in
     let answer = c .before .before .before .before .before .answer .given .1 in
@@ -49,7 +51,7 @@ same-length-2 : tie.Need-same-length-2
 same-length-2 c = search needs
 
 returns-2 : tie.Need-returns-2
-unfolding shown isList
+unfolding shown answerText isList
 returns-2 c =
     let told = c .before .before .put-ok .ensures in
     let answer = c .before .before .before .before .before .answer2 .given .1 in
@@ -60,7 +62,7 @@ same-length-3 : tie.Need-same-length-3
 same-length-3 c = search needs
 
 returns-3 : tie.Need-returns-3
-unfolding shown isList
+unfolding shown answerText isList
 returns-3 c =
     let told = c .before .before .put-place .ensures in
     let answer = c .before .before .before .before .before .answer3 .given .1 in
@@ -71,7 +73,7 @@ same-length-4 : tie.Need-same-length-4
 same-length-4 c = search needs
 
 returns-4 : tie.Need-returns-4
-unfolding shown isList
+unfolding shown answerText isList
 returns-4 c =
     let told = c .before .before .put-bucket .ensures in
     let answer = c .before .before .before .before .before .answer4 .given .1 in
@@ -79,7 +81,7 @@ returns-4 c =
     told-reply done _ _ _ _ _ (ap shown answer) (ap isList answer) (told .0) (told .1)
 
 returns-5 : tie.Need-returns-5
-unfolding shown isList
+unfolding shown answerText movesOf moveText joined isList
 returns-5 c = let answer = c .enum-told .given .1 in (rw (answer, add-zero), rw answer)
 
 pub reply-spec : {M : Type 1} → statement M
