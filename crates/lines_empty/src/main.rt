@@ -1,4 +1,6 @@
 // The program on an empty input.
 fn main() {
-    shell::run();
+    let mut heard = [0; 0];
+    let mut said = [0; 0];
+    shell::run(&mut heard, &mut said);
 }

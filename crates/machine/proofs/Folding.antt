@@ -14,7 +14,7 @@ use Rattle.lines.specs.Words.{upToFeed}
 use Rattle.lines.proofs.Cutting.{lines-on, lines-last}
 use Rattle.session.specs.Maps.{listed}
 use Rattle.session.proofs.Spoken.{unreadable-refused}
-use Rattle.machine.specs.Standing.{Standing, due, Idle, Turned, heard, received}
+use Rattle.machine.specs.Standing.{Standing, beginning, due, Goes, Idle, heard, received}
 use Rattle.machine.specs.Claims.{Pieces, turn, read, close, stop, OutputWhole}
 
 -- THE END OF THE INPUT
@@ -63,27 +63,27 @@ none-left s [] e h = refl
 none-left s (c ∷ r) e h = absurd (omega (arith, ap (λ ls. length (printedAll s ls)) (closed-lines (c ∷ r) e)))
 
 -- no line is unfinished: a further line feed prints something
-abbrev Ended : Standing → Type 0
+abbrev pub Ended : Standing → Type 0
 Ended s = length (due s []) < length (due s (10 ∷ []))
 
--- a turn keeps that
-ended-turned : {s s′ : Standing} {put : List ℕ} {more : Bool} → Turned s put more s′ → Ended s → Ended s′
-ended-turned {s} {s′} {put} t e =
+-- what is put keeps that
+pub ended-gone : {s s′ : Standing} {put : List ℕ} → Goes [] s put s′ → Ended s → Ended s′
+ended-gone {s} {s′} {put} g e =
     omega (
       arith,
       e,
-      ap length (t .goes .text []),
-      ap length (t .goes .text (10 ∷ [])),
+      ap length (g .text []),
+      ap length (g .text (10 ∷ [])),
       length-append put (due s′ []),
       length-append put (due s′ (10 ∷ [])),
     )
 
 module _ (s : Standing) (i : Idle s) where
-  due-closed : due (received [] s) [] ≡ due s []
+  pub due-closed : due (received [] s) [] ≡ due s []
   unfolding due
   due-closed = rw (append-nil (s .rest ++ heard [] (s .rest)), closed-lines (s .rest) (i .rest))
 
-  ended-closed : Ended (received [] s)
+  pub ended-closed : Ended (received [] s)
   unfolding due
   ended-closed =
       omega (
@@ -95,7 +95,7 @@ module _ (s : Standing) (i : Idle s) where
       )
 
   -- nothing is due where no line is unfinished
-  due-none : Ended s → due s [] ≡ []
+  pub due-none : Ended s → due s [] ≡ []
   unfolding due listed if_then_else_
   due-none e = rw (i .listing) (none-left (s .session) (s .rest) (i .rest) (rw (i .listing) at e))
 
@@ -103,15 +103,24 @@ module _ (s : Standing) (i : Idle s) where
 
 ended-pieces : {s : Standing} {ps : List (List ℕ)} → Pieces false s [] ps → Ended s → joined ps ≡ due s []
 unfolding joined
-ended-pieces (turn {put = put} t p) e = ap (λ (l : List ℕ). put ++ l) (ended-pieces p (ended-turned t e)) ∙ t .goes .text []
+ended-pieces (turn {put = put} t p) e = ap (λ (l : List ℕ). put ++ l) (ended-pieces p (ended-gone (t .goes) e)) ∙ t .goes .text []
 ended-pieces (stop i) e = sym (due-none _ i e)
 
+-- what is due where a block is received is what was due where the input goes on with it
+pub due-received : (s : Standing) (c : ℕ) (b more : List ℕ) → due (received (c ∷ b) s) more ≡ due s ((c ∷ b) ++ more)
+unfolding due heard
+due-received s c b more = rw append-assoc
+
 pieces : {s : Standing} {bs ps : List (List ℕ)} → Pieces true s bs ps → joined ps ≡ due s (joined bs)
-unfolding joined due heard
+unfolding joined
 pieces {bs = bs} (turn {put = put} t p) = ap (λ (l : List ℕ). put ++ l) (pieces p) ∙ t .goes .text (joined bs)
-pieces (read p) = pieces p ∙ rw append-assoc
+pieces (read {s} {c} {b} {bs} p) = pieces p ∙ due-received s c b (joined bs)
 pieces (close i p) = ended-pieces p (ended-closed _ i) ∙ due-closed _ i
 
-pub output-whole : OutputWhole
+-- all that is due at the beginning is the output
+pub due-beginning : (input : List ℕ) → due beginning input ≡ output input
 unfolding due output listed if_then_else_
-output-whole bs ps p = pieces p
+due-beginning input = refl
+
+pub output-whole : OutputWhole
+output-whole bs ps p = pieces p ∙ due-beginning (joined bs)

@@ -26,7 +26,7 @@ use Rattle.console.specs.declared.Reply.{Reply}
 use Rattle.console.specs.declared.Page.{Page}
 use Rattle.console.proofs.Serving.{shown-short}
 use Rattle.machine.specs.Standing.{Goes, Idle}
-use Rattle.machine.specs.Machine.{keptBytes, stands, bytesOf, Sane, Ready, Went, Pages, Answers, Turns}
+use Rattle.machine.specs.Machine.{keptBytes, stands, bytesOf, unfinished, keeping, Sane, Ready, Went, Pages, Answers, Turns}
 use Rattle.machine.specs.declared.Machine.{Machine}
 use Rattle.machine.specs.declared.After.{After}
 use Rattle.machine.proofs.Going.{goes-none, goes-then, line-goes, page-goes, kept-goes}
@@ -268,55 +268,45 @@ module _
 
     -- or none: the first bytes of an unfinished line are at the front
     module _
-        (idle : Idle (stands (r .machine) k′ bytes)) (kept : ℕ) (block′ : List ℕ)
-        (count : kept ≡ length (take keptBytes (drop (r .machine .from) (bytesOf (r .machine) block))))
-        (moved : block′ ≡ over (take keptBytes (drop (r .machine .from) (bytesOf (r .machine) block))) block)
-        (size : ℕ) (all : size ≡ kept)
+        (idle : Idle (stands (r .machine) k′ bytes)) (block′ : List ℕ) (moved : block′ ≡ over (unfinished (r .machine) block) block)
       where
         abbrev new : List ℕ
-        new = take keptBytes (drop (r .machine .from) (bytesOf (r .machine) block))
+        new = unfinished (r .machine) block
 
-        front : take size block′ ≡ take keptBytes (drop (r .machine .from) bytes)
+        front : take (length new) block′ ≡ take keptBytes (drop (r .machine .from) bytes)
         unfolding over
         front =
-            ap₂ take all moved
-            ∙ take-at new (drop (length new) block) kept (sym count)
+            ap (take (length new)) moved
+            ∙ take-at new (drop (length new) block) (length new) refl
             ∙ ap (λ (l : List ℕ). take keptBytes (drop (r .machine .from) l)) (sym same)
 
-        unfinished : upToFeed (take keptBytes (drop (r .machine .from) bytes)) ≡ take keptBytes (drop (r .machine .from) bytes)
+        no-feed : upToFeed (take keptBytes (drop (r .machine .from) bytes)) ≡ take keptBytes (drop (r .machine .from) bytes)
         unfolding stands
-        unfinished = front-unfinished keptBytes (drop (r .machine .from) bytes) (idle .rest)
+        no-feed = front-unfinished keptBytes (drop (r .machine .from) bytes) (idle .rest)
 
         turns-done
-            : Turns m k block
-            (record {
-              machine =
-                  record { state = r .machine .state; listing = r .machine .listing; row = r .machine .row; from = 0; size = size };
-              put = r .put;
-              more = false;
-            })
-            k′ block′ out′
+            : Turns m k block (record { machine = keeping (r .machine) block; put = r .put; more = false }) k′ block′ out′
         unfolding stands over
         turns-done =
             record {
               turned =
                   record {
                     goes = rw (← b, front) (goes-then (w .goes) (kept-goes keptBytes (omega arith) (idle .rest)));
-                    done = λ e. record { listing = idle .listing; rest = rw front unfinished };
+                    done = λ e. record { listing = idle .listing; rest = rw front no-feed };
                     onward = λ e. absurd (false≢true e);
                   };
               ready =
                   record {
                     sane = record { right = w .sane .right; row = w .sane .row };
                     from = omega arith;
-                    size = omega (arith, count, ap length moved, length-append new (drop (length new) block));
+                    size = omega (arith, ap length moved, length-append new (drop (length new) block));
                   };
               room = w .room;
               rests = λ e.
                   record {
                     listing = idle .listing;
-                    rest = rw front unfinished;
-                    few = omega (arith, count, length-take keptBytes (drop (r .machine .from) (bytesOf (r .machine) block)));
+                    rest = rw front no-feed;
+                    few = omega (arith, length-take keptBytes (drop (r .machine .from) (bytesOf (r .machine) block)));
                   };
             }
 
@@ -366,17 +356,6 @@ module _
         lines-places = let l = places r ready bytes went-lines in (l .0, l .1)
 
         pub kept-turns
-            : r .more ≡ false → (kept : ℕ) (block′ : List ℕ)
-            → kept ≡ length (take keptBytes (drop (r .machine .from) (bytesOf (r .machine) block)))
-            → block′ ≡ over (take keptBytes (drop (r .machine .from) (bytesOf (r .machine) block))) block
-            → (size : ℕ) → size ≡ kept
-            → Turns m k block
-            (record {
-              machine =
-                  record { state = r .machine .state; listing = r .machine .listing; row = r .machine .row; from = 0; size = size };
-              put = r .put;
-              more = false;
-            })
-            k₂ block′ out₂
-        kept-turns none kept block′ count moved size all =
-            turns-done r ready bytes went-lines (lines .done none) kept block′ count moved size all
+            : r .more ≡ false → (block′ : List ℕ) → block′ ≡ over (unfinished (r .machine) block) block
+            → Turns m k block (record { machine = keeping (r .machine) block; put = r .put; more = false }) k₂ block′ out₂
+        kept-turns none block′ moved = turns-done r ready bytes went-lines (lines .done none) block′ moved

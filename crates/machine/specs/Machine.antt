@@ -26,6 +26,13 @@ stands m k bytes = record { listing = m .listing; row = m .row; session = sessio
 abbrev pub bytesOf : Machine → List ℕ → List ℕ
 bytesOf m block = take (m .size) block
 
+-- what is kept of an unfinished line: its first bytes, which say as much as all of it; and the machine that has them at the front
+abbrev pub unfinished : Machine → List ℕ → List ℕ
+unfinished m block = take keptBytes (drop (m .from) (bytesOf m block))
+
+abbrev pub keeping : Machine → List ℕ → Machine
+keeping m block = record { state = m .state; listing = m .listing; row = m .row; from = 0; size = length (unfinished m block) }
+
 -- what every machine of a run has: sound tables, a row of the list in progress, and places within the block
 pub record Sane (m : Machine) (k : Rack) : Type 0 where
   pub right : Right (held k)

@@ -12,10 +12,10 @@ use session::state::State;
 ghost use mathlib.Core.Path.{_≡_};
 ghost use mathlib.Core.Bool.{false};
 ghost use Prim.Native.Nat.{_+_, _≤_, _<_};
-ghost use lib.ListN.{length, take, drop};
+ghost use lib.ListN.{length};
 ghost use Rattle.model.specs.Table.{over};
 ghost use Rattle.machine.specs.Claims.{OutputWhole};
-ghost use Rattle.machine.specs.Machine.{keptBytes, Rests, Begins, Receives, SaneNow, ReadyNow, PutsPage, AnswersLines, MakesTurn};
+ghost use Rattle.machine.specs.Machine.{unfinished, keeping, Rests, Begins, Receives, SaneNow, ReadyNow, PutsPage, AnswersLines, MakesTurn};
 
 // The bytes kept of an unfinished line: more than a readable line has.
 pub const KEPT: usize = 65;
@@ -81,11 +81,10 @@ pub fn start() -> Machine
 
 // What is read behind the bytes that are left, `got` bytes; or, where none are read, the input has ended: a line feed then ends an
 // unfinished line.
-pub fn receive(m: Machine, block: &mut [u8], got: usize) -> Machine
+pub fn receive(mut m: Machine, block: &mut [u8], got: usize) -> Machine
     requires { ⌜ Rests m (now block) × (m .from ≤ m .size) × (m .size < length (now block)) × (m .size + got ≤ length (now block)) ⌝ }
     ensures { λ r. ⌜ Receives m got (now (block .entry)) r (now (block .exit)) ⌝ }
 {
-    let mut m = m;
     let size = m.size;
     if 0 < got {
         m.size = size + got;
@@ -157,7 +156,7 @@ fn page(
 // The lines of a block, each answered where it stands, behind `put` bytes in the buffer: until none is whole, a move list begins, or
 // the buffer has no room for a reply.
 fn answer(
-    m: Machine,
+    mut m: Machine,
     block: &[u8],
     tops: &mut [u32; BLOCKS],
     ends: &mut [u32; INTERVALS],
@@ -174,7 +173,6 @@ fn answer(
     requires { ⌜ SaneNow m tops ends blocks adjustments «second_tops» «second_ends» «second_blocks» «second_adjustments» ⌝ }
     ensures { λ r. ⌜ AnswersLines m block tops ends blocks adjustments «second_tops» «second_ends» «second_blocks» «second_adjustments» put out r ⌝ }
 {
-    let mut m = m;
     let mut at = put;
     while at <= LAST {
         let from = m.from;
@@ -186,11 +184,9 @@ fn answer(
                 more: false,
             };
         }
-        let behind = end + 1;
-        let state = m.state;
         let reply = step(
             &block[from..end],
-            state,
+            m.state,
             tops,
             ends,
             blocks,
@@ -202,12 +198,12 @@ fn answer(
             out,
             at,
         );
-        let state = reply.state;
         at = reply.at;
+        let state = reply.state;
         m.state = state;
         m.listing = reply.list;
         m.row = 0;
-        m.from = behind;
+        m.from = end + 1;
         if reply.list {
             break;
         }
@@ -219,21 +215,24 @@ fn answer(
     }
 }
 
-// Moves the first bytes of an unfinished line to the front of the block: they say as much as all of it. How many are kept.
-fn keep(block: &mut [u8], from: usize, size: usize) -> usize
-    requires { ⌜ (from ≤ size) × (size ≤ length (now block)) ⌝ }
-    ensures { λ r. ⌜ r ≡ length (take keptBytes (drop from (take size (now (block .entry))))) ⌝ }
-    ensures { λ _. ⌜ now (block .exit) ≡ over (take keptBytes (drop from (take size (now (block .entry))))) (now (block .entry)) ⌝ }
+// Moves the first bytes of an unfinished line to the front of the block: they say as much as all of it.
+fn keep(mut m: Machine, block: &mut [u8]) -> Machine
+    requires { ⌜ (m .from ≤ m .size) × (m .size ≤ length (now block)) ⌝ }
+    ensures { λ r. ⌜ r ≡ keeping m (now (block .entry)) ⌝ }
+    ensures { λ _. ⌜ now (block .exit) ≡ over (unfinished m (now (block .entry))) (now (block .entry)) ⌝ }
 {
+    let from = m.from;
     let mut kept = 0;
     while kept < KEPT {
-        if from + kept == size {
-            return kept;
+        if from + kept == m.size {
+            break;
         }
         block[kept] = block[from + kept];
         kept += 1;
     }
-    kept
+    m.from = 0;
+    m.size = kept;
+    m
 }
 
 // A turn of the machine, whose buffer is empty: until there is no room for a reply, or no line of the block is left.
@@ -270,11 +269,9 @@ pub fn turn(
     if listed.more {
         return listed;
     }
-    let m = listed.machine;
-    let size = m.size;
     let answered = answer(
-        m,
-        &block[..size],
+        listed.machine,
+        &block[..listed.machine.size],
         tops,
         ends,
         blocks,
@@ -289,12 +286,8 @@ pub fn turn(
     if answered.more {
         return answered;
     }
-    let mut m = answered.machine;
-    let kept = keep(block, m.from, m.size);
-    m.from = 0;
-    m.size = kept;
     After {
-        machine: m,
+        machine: keep(answered.machine, block),
         put: answered.put,
         more: false,
     }

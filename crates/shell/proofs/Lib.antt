@@ -1,1 +1,3 @@
 pub mod Falling
+pub mod Running
+pub mod Taping

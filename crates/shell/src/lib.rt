@@ -1,5 +1,4 @@
 // The program around the machine: it reads, lets the machine work, and writes.
-use machine::After;
 use machine::BLOCK;
 use machine::Machine;
 use machine::NUMBERS;
@@ -16,7 +15,21 @@ ghost use lib.ListN.{length, take};
 ghost use Rattle.model.specs.Lent.{arraysNow};
 ghost use Rattle.model.specs.Refusal.{roomShort};
 ghost use Rattle.machine.specs.Machine.{ReadyNow};
-ghost use Rattle.shell.specs.Shell.{Works};
+ghost use Rattle.shell.specs.Shell.{Taped, Works, Runs};
+
+// After the turns over a block: the machine, the place reached on the tape, and whether work is left because the output is closed.
+struct Done {
+    machine: Machine,
+    said: usize,
+    more: bool,
+}
+
+// A run: how many bytes of its input and of its output its two tapes hold, and whether the input ended and all is written.
+pub struct Outcome {
+    pub heard: usize,
+    pub said: usize,
+    pub whole: bool,
+}
 
 // Writes the first n bytes of `out`, and says whether the output is still open.
 fn write(out: &[u8], n: usize) -> bool
@@ -36,9 +49,27 @@ fn read(block: &mut [u8], size: usize) -> usize
     io::count(got, rest)
 }
 
-// The machine's turns, each written, until nothing is left to do; more is left where the output is closed.
+// Records bytes on a tape from place `at` on, as many as it has room for: the place reached.
+fn record(tape: &mut [u8], at: usize, bytes: &[u8]) -> usize
+    requires { ⌜ at ≤ length (now tape) ⌝ }
+    ensures { λ r. ⌜ Taped (now (tape .entry)) at (now (bytes .entry)) (now (tape .exit)) r ⌝ }
+{
+    let mut i = 0;
+    let mut to = at;
+    while to < tape.len() {
+        if i == bytes.len() {
+            return to;
+        }
+        tape[to] = bytes[i];
+        i += 1;
+        to += 1;
+    }
+    to
+}
+
+// The machine's turns, each recorded on the tape from place `said` on and written, until nothing is left to do or the output is closed.
 fn work(
-    m: Machine,
+    mut m: Machine,
     block: &mut [u8; BLOCK],
     tops: &mut [u32; BLOCKS],
     ends: &mut [u32; INTERVALS],
@@ -50,11 +81,13 @@ fn work(
     second_adjustments: &mut [u32; INTERVALS],
     rows: &mut [u32; NUMBERS],
     out: &mut [u8; OUT],
-) -> After
+    tape: &mut [u8],
+    mut said: usize,
+) -> Done
     requires { ⌜ ReadyNow m block tops ends blocks adjustments «second_tops» «second_ends» «second_blocks» «second_adjustments» ⌝ }
-    ensures { λ r. ⌜ Works block tops ends blocks adjustments «second_tops» «second_ends» «second_blocks» «second_adjustments» r ⌝ }
+    requires { ⌜ said ≤ length (now tape) ⌝ }
+    ensures { λ r. ⌜ Works m block tops ends blocks adjustments «second_tops» «second_ends» «second_blocks» «second_adjustments» tape said r ⌝ }
 {
-    let mut m = m;
     loop {
         let after = turn(
             m,
@@ -71,15 +104,22 @@ fn work(
             out,
         );
         m = after.machine;
-        if !write(out, after.put) {
-            return After {
+        let text = &out[..];
+        said = record(tape, said, &text[..after.put]);
+        let open = write(out, after.put);
+        if !after.more {
+            return Done {
                 machine: m,
-                put: 0,
-                more: true,
+                said,
+                more: false,
             };
         }
-        if !after.more {
-            return after;
+        if !open {
+            return Done {
+                machine: m,
+                said,
+                more: true,
+            };
         }
     }
 }
@@ -87,6 +127,8 @@ fn work(
 // The whole input, block by block, until it ends or the output is closed. Nothing says that an input ends: the count of reads is
 // what falls.
 fn serve(
+    heard: &mut [u8],
+    said: &mut [u8],
     block: &mut [u8; BLOCK],
     tops: &mut [u32; BLOCKS],
     ends: &mut [u32; INTERVALS],
@@ -98,16 +140,25 @@ fn serve(
     second_adjustments: &mut [u32; INTERVALS],
     rows: &mut [u32; NUMBERS],
     out: &mut [u8; OUT],
-)
+) -> Outcome
     requires { ⌜ roomShort (arraysNow tops ends blocks adjustments) ≡ false ⌝ }
     requires { ⌜ roomShort (arraysNow «second_tops» «second_ends» «second_blocks» «second_adjustments») ≡ false ⌝ }
+    ensures { λ r. ⌜ Runs heard said r ⌝ }
 {
     let mut m = start();
+    let mut outcome = Outcome {
+        heard: 0,
+        said: 0,
+        whole: false,
+    };
     let mut reads = 18_446_744_073_709_551_615u64;
     while 0 < reads {
-        let got = read(block, m.size);
+        let size = m.size;
+        let got = read(block, size);
+        let bytes = &block[..];
+        outcome.heard = record(heard, outcome.heard, &bytes[size..size + got]);
         m = receive(m, block, got);
-        let after = work(
+        let done = work(
             m,
             block,
             tops,
@@ -120,20 +171,25 @@ fn serve(
             second_adjustments,
             rows,
             out,
+            said,
+            outcome.said,
         );
-        if after.more {
-            return;
+        outcome.said = done.said;
+        if done.more || got == 0 {
+            outcome.whole = !done.more;
+            return outcome;
         }
-        if got == 0 {
-            return;
-        }
-        m = after.machine;
+        m = done.machine;
         reads -= 1;
     }
+    outcome
 }
 
-// The program, with its two whole tables.
-pub fn run() {
+// The program, with its two whole tables. What it reads and what it writes is recorded on two tapes, as far as they reach, so that
+// its promise can speak of it; the program itself lends none.
+pub fn run(heard: &mut [u8], said: &mut [u8]) -> Outcome
+    ensures { λ r. ⌜ Runs heard said r ⌝ }
+{
     let mut block = [0; BLOCK];
     let mut tops = [0; BLOCKS];
     let mut ends = [0; INTERVALS];
@@ -146,6 +202,8 @@ pub fn run() {
     let mut rows = [0; NUMBERS];
     let mut out = [0; OUT];
     serve(
+        heard,
+        said,
         &mut block,
         &mut tops,
         &mut ends,
@@ -157,5 +215,5 @@ pub fn run() {
         &mut second_adjustments,
         &mut rows,
         &mut out,
-    );
+    )
 }

@@ -13,17 +13,13 @@ use Rattle.machine.proofs.answer.Statement.{statement}
 use Rattle.machine.proofs.answer.Tie as tie
 
 abbrev Inv-loop : tie.InvT-loop
-Inv-loop block tops₀ ends₀ blocks₀ adjustments₀ second-tops₀ second-ends₀ second-blocks₀ second-adjustments₀ put out₀ m₀ at₀ tops ends blocks adjustments second-tops second-ends second-blocks second-adjustments out m at =
-    Went m₀
-    (rack (m₀ .state) (arrays tops₀ ends₀ blocks₀ adjustments₀) (arrays second-tops₀ second-ends₀ second-blocks₀ second-adjustments₀))
-    block put out₀ m
-    (rack (m .state) (arrays tops ends blocks adjustments) (arrays second-tops second-ends second-blocks second-adjustments))
-    at out
-    × (m .listing ≡ false)
+Inv-loop m block t e b a t₂ e₂ b₂ a₂ put out at₀ m′ t′ e′ b′ a′ t₂′ e₂′ b₂′ a₂′ out′ at =
+    Went m (rack (m .state) (arrays t e b a) (arrays t₂ e₂ b₂ a₂)) block put out m′
+    (rack (m′ .state) (arrays t′ e′ b′ a′) (arrays t₂′ e₂′ b₂′ a₂′)) at out′
+    × (m′ .listing ≡ false)
 
 abbrev μ-loop : tie.MeasureT-loop
-μ-loop block tops₀ ends₀ blocks₀ adjustments₀ second-tops₀ second-ends₀ second-blocks₀ second-adjustments₀ put out₀ m₀ at₀ tops ends blocks adjustments second-tops second-ends second-blocks second-adjustments out m at =
-    length block - m .from
+μ-loop m block t e b a t₂ e₂ b₂ a₂ put out at₀ m′ t′ e′ b′ a′ t₂′ e₂′ b₂′ a₂′ out′ at = length block - m′ .from
 
 loop-holds : tie.Need-loop-holds Inv-loop μ-loop
 loop-holds c = let pre = c .before .pre in (went-none _ _ _ _ _ (pre .1) (pre .0 .2) (pre .0 .1), pre .0 .0)
@@ -36,28 +32,25 @@ returns c =
     let inv = c .before .before .before .loop .inv in
     answers-done (inv .0) (line-none _ _ _ _ (inv .1) (inv .0 .within) (c .before .feed-at .ensures) (c .if1 .taken))
 
-add-behind : tie.Need-add-behind Inv-loop μ-loop
-add-behind c = let inv = c .before .before .before .loop .inv in omega (arith, end-within _ _ _ (inv .0 .within) (c .before .feed-at .ensures))
-
 sub-step : tie.Need-sub-step Inv-loop μ-loop
-sub-step c = omega (arith, c .before .before .feed-at .ensures)
+sub-step c = omega (arith, c .before .feed-at .ensures)
 
 part-step-start : tie.Need-part-step-start Inv-loop μ-loop
-part-step-start c = let inv = c .before .before .before .before .loop .inv in omega (arith, inv .0 .within)
+part-step-start c = let inv = c .before .before .before .loop .inv in omega (arith, inv .0 .within)
 
 part-step-end : tie.Need-part-step-end Inv-loop μ-loop
 part-step-end c =
-    let inv = c .before .before .before .before .loop .inv in
-    omega (arith, inv .0 .within, end-within _ _ _ (inv .0 .within) (c .before .before .feed-at .ensures))
+    let inv = c .before .before .before .loop .inv in
+    omega (arith, inv .0 .within, end-within _ _ _ (inv .0 .within) (c .before .feed-at .ensures))
 
 step-requires : tie.Need-step-requires Inv-loop μ-loop
 step-requires c κs =
-    let inv = c .before .before .before .before .before .before .before .before .before .before .before .before .before .before .loop .inv in
+    let inv = c .before .before .before .before .before .before .before .before .before .before .before .before .before .loop .inv in
     (omega arith, inv .0 .sane .right)
 
 loop-again : tie.Need-loop-again Inv-loop μ-loop
 loop-again c =
-    let cut = c .before .before .before .before .before .before .before .before .before .before .before .before .before .before in
+    let cut = c .before .before .before .before .before .before .before .before .before .before .before .before .before in
     let inv = cut .before .before .before .loop .inv in (
       went-then (inv .0)
           (line-went _ _ _ _ (inv .1) (inv .0 .within) (cut .before .feed-at .ensures) (cut .before .before .before .loop .at) _ _ _ _ _ _ _
@@ -67,7 +60,7 @@ loop-again c =
 
 returns-3 : tie.Need-returns-3 Inv-loop μ-loop
 returns-3 c =
-    let cut = c .before .before .before .before .before .before .before .before .before .before .before .before .before .before in
+    let cut = c .before .before .before .before .before .before .before .before .before .before .before .before .before in
     let inv = cut .before .before .before .loop .inv in
     answers-more
     (went-then (inv .0)
@@ -75,9 +68,14 @@ returns-3 c =
     (cut .if1 .left) refl (inv .0 .sane) (omega arith) (c .before .before .step .ensures) _ _ (omega arith) (omega arith) (omega arith)))
     (omega (arith, inv .0 .onward, cut .before .feed-at .ensures))
 
+add-m : tie.Need-add-m Inv-loop μ-loop
+add-m c =
+    let fed = c .before .before .before .before .before .before .before .before .before .before .before .before .before in
+    omega (arith, end-within _ _ _ (fed .before .before .loop .inv .0 .within) (fed .feed-at .ensures))
+
 loop-less : tie.Need-loop-less Inv-loop μ-loop
 loop-less c =
-    let cut = c .before .before .before .before .before .before .before .before .before .before .before .before .before .before in
+    let cut = c .before .before .before .before .before .before .before .before .before .before .before .before .before in
     let inv = cut .before .before .before .loop .inv in
     omega (arith, cut .before .feed-at .ensures, cut .if1 .left, end-within _ _ _ (inv .0 .within) (cut .before .feed-at .ensures))
 
@@ -93,11 +91,11 @@ answer-spec =
     loop-holds
     feed-at-requires
     returns
-    add-behind
     sub-step
     part-step-start
     part-step-end
     step-requires
+    add-m
     loop-less
     loop-again
     returns-2

@@ -1,23 +1,29 @@
--- `shell::serve` meets its contract. The loop's invariant: the machine can go on, and has nothing left to do. Assumes nothing.
+-- `shell::serve` meets its contract. The loop's invariant: the machine can go on and has nothing left to do, and what was read and put is
+-- recorded. Assumes nothing.
 use Prim.Native.Nat.{ℕ, _-_, _<_}
+use mathlib.Core.Path.{_≡_, refl, sym, _∙_}
+use mathlib.Core.Bool.{true, false, true≢false}
+use mathlib.Core.Logic.{⊎-elim}
 use native.Mathlib.Omega.{arith}
 use Rattle.model.specs.Table.{arrays}
 use Rattle.console.specs.Rack.{rack}
-use Rattle.machine.specs.Machine.{Rests, Ready}
-use Rattle.shell.proofs.Falling.{rests-read, ready-read}
+use Rattle.machine.specs.Machine.{stands, bytesOf, Rests, Ready}
+use Rattle.shell.proofs.Falling.{not-true, rests-read, ready-read}
+use Rattle.shell.proofs.Running.{Going, going-none, rests-idle, between, between-length, went-on, going-ran, going-on, going-ends, none, some}
+use Rattle.shell.proofs.Taping.{taped-length, taped-place}
 use Rattle.shell.proofs.serve.Statement.{statement}
 use Rattle.shell.proofs.serve.Tie as tie
 
 abbrev Inv-loop : tie.InvT-loop
-Inv-loop block₀ tops₀ ends₀ blocks₀ adjustments₀ second-tops₀ second-ends₀ second-blocks₀ second-adjustments₀ rows₀ out₀ m₀ reads₀ block tops ends blocks adjustments second-tops second-ends second-blocks second-adjustments rows out m reads =
-    Ready m
-    (rack (m .state) (arrays tops ends blocks adjustments) (arrays second-tops second-ends second-blocks second-adjustments))
-    block
-    × Rests m block
+Inv-loop h s block t e b a t₂ e₂ b₂ a₂ rows out m r reads h′ s′ block′ t′ e′ b′ a′ t₂′ e₂′ b₂′ a₂′ rows′ out′ m′ r′ reads′ =
+    Ready m′ (rack (m′ .state) (arrays t′ e′ b′ a′) (arrays t₂′ e₂′ b₂′ a₂′)) block′
+    × Rests m′ block′
+    × Going h s h′ s′ (r′ .heard) (r′ .said)
+    (stands m′ (rack (m′ .state) (arrays t′ e′ b′ a′) (arrays t₂′ e₂′ b₂′ a₂′)) (bytesOf m′ block′))
+    × (r′ .whole ≡ false)
 
 abbrev μ-loop : tie.MeasureT-loop
-μ-loop block₀ tops₀ ends₀ blocks₀ adjustments₀ second-tops₀ second-ends₀ second-blocks₀ second-adjustments₀ rows₀ out₀ m₀ reads₀ block tops ends blocks adjustments second-tops second-ends second-blocks second-adjustments rows out m reads =
-    reads
+μ-loop h s block t e b a t₂ e₂ b₂ a₂ rows out m r reads h′ s′ block′ t′ e′ b′ a′ t₂′ e₂′ b₂′ a₂′ rows′ out′ m′ r′ reads′ = reads′
 
 -- one less of a number that is not 0
 one-less : (n : ℕ) → 0 < n → n - 1 < n
@@ -28,46 +34,85 @@ start-requires c κs = tt
 
 loop-holds : tie.Need-loop-holds Inv-loop μ-loop
 loop-holds c =
-    let pre = c .before .pre in
     let begins = c .start .ensures in
-    (begins .ready _ _ _ (pre .0) (pre .1), begins .rests _)
+    let pre = c .before .before .before .pre in
+    (begins .ready _ _ _ (pre .0) (pre .1), begins .rests _, going-none _ _ _ (begins .stands _ _ _), refl)
 
 read-requires : tie.Need-read-requires Inv-loop μ-loop
 read-requires c κs = omega (arith, c .before .before .loop .inv .1 .few)
 
+add-record : tie.Need-add-record Inv-loop μ-loop
+add-record c = omega (arith, c .before .before .before .read .ensures .1)
+
+sub-record : tie.Need-sub-record Inv-loop μ-loop
+sub-record c = omega arith
+
+part-record-start : tie.Need-part-record-start Inv-loop μ-loop
+part-record-start c = omega (arith, c .before .before .before .read .ensures .1)
+
+part-record-end : tie.Need-part-record-end Inv-loop μ-loop
+part-record-end c = omega (arith, c .before .before .before .read .ensures .1)
+
+record-requires : tie.Need-record-requires Inv-loop μ-loop
+record-requires c κs = taped-place (c .before .before .before .before .before .before .before .loop .inv .2 .heard)
+
 receive-requires : tie.Need-receive-requires Inv-loop μ-loop
 receive-requires c κs =
-    let inv = c .before .before .before .before .loop .inv in
-    let read = c .before .read .ensures in
+    let inv = c .before .before .before .before .before .before .before .before .before .before .before .loop .inv in
+    let read = c .before .before .before .before .before .before .before .before .read .ensures in
     (rests-read (inv .1) (read .0), inv .0 .from, omega (arith, inv .1 .few), read .1)
 
 work-requires : tie.Need-work-requires Inv-loop μ-loop
 work-requires c κs =
-    let received = c .before .before .before .before .before .before .before .before .before .before .before in
-    let inv = received .before .before .before .before .before .loop .inv in
-    received .receive .ensures .ready _ _ (ready-read (inv .0) (omega (arith, inv .1 .few)))
+    let received = c .before .before .before .before .before .before .before .before .before .before .before .before in
+    let inv = received .before .before .before .before .before .before .before .before .before .before .before .before .loop .inv in
+    (received .receive .ensures .ready _ _ (ready-read (inv .0) (omega (arith, inv .1 .few))), taped-place (inv .2 .said))
+
+same-length : tie.Need-same-length Inv-loop μ-loop
+same-length c = taped-length (c .before .before .before .before .before .before .before .before .before .before .before .before .before .before .before .before .before .before .before .before .before .record .ensures) ∙ taped-length (c .before .before .before .before .before .before .before .before .before .before .before .before .before .before .before .before .before .before .before .before .before .before .before .before .before .before .before .before .before .loop .inv .2 .heard)
+
+same-length-2 : tie.Need-same-length-2 Inv-loop μ-loop
+same-length-2 c = taped-length (c .before .before .before .before .work .ensures .taped) ∙ taped-length (c .before .before .before .before .before .before .before .before .before .before .before .before .before .before .before .before .before .before .before .before .before .before .before .before .before .before .before .before .before .loop .inv .2 .said)
 
 returns : tie.Need-returns Inv-loop μ-loop
-returns c = tt
-
-returns-2 : tie.Need-returns-2 Inv-loop μ-loop
-returns-2 c = tt
+returns c =
+    let head = c .before .before .before .before .before .before .before .before .before .before .before .before .before .before .before .before .before .before .before .before .before .before .before .before .before .before .before .before .before .loop in
+    let read = c .before .before .before .before .before .before .before .before .before .before .before .before .before .before .before .before .before .before .before .before .before .before .before .before .before .before .read in
+    let received = c .before .before .before .before .before .before .before .before .before .before .before .before .before .before .before .before .before .receive .ensures in
+    let worked = c .before .before .before .before .work .ensures in
+    going-ends (head .inv .2) (c .before .before .before .before .before .before .before .before .before .before .before .before .before .before .before .before .before .before .before .before .before .record .ensures) (worked .taped)
+    (went-on _ _ (received .stands _ _) (between (head .m .size) (read .result) (read .last .0)) (read .ensures .0) (worked .goes))
+    (rests-idle _ (head .inv .1)) _
+    (λ e. (between-length (head .m .size) (read .result) (read .last .0) (read .ensures .1) ∙ ⊎-elim (λ w. absurd (true≢false (sym (w .taken) ∙ not-true _ e))) (λ w. none _ (w .1 .taken)) (c .before .if1 .came), rests-idle _ (worked .rests (not-true _ e))))
 
 sub-reads : tie.Need-sub-reads Inv-loop μ-loop
-sub-reads c =
-    let got = c .before .before .before .before .before .before .before .before .before .before .before .before .before .before in
-    got .before .before .before .before .before .loop-test .taken
+sub-reads c = c .before .before .before .before .before .before .before .before .before .before .before .before .before .before .before .before .before .before .before .before .before .before .before .before .before .before .before .before .before .loop-test .taken
 
 loop-less : tie.Need-loop-less Inv-loop μ-loop
-loop-less c =
-    let got = c .before .before .before .before .before .before .before .before .before .before .before .before .before .before in
-    one-less _ (got .before .before .before .before .before .loop-test .taken)
+loop-less c = one-less _ (c .before .before .before .before .before .before .before .before .before .before .before .before .before .before .before .before .before .before .before .before .before .before .before .before .before .before .before .before .before .loop-test .taken)
 
 loop-again : tie.Need-loop-again Inv-loop μ-loop
-loop-again c = let done = c .before .before .before .work .ensures in (done .0, done .1 (c .before .before .if1 .left))
+loop-again c =
+    let head = c .before .before .before .before .before .before .before .before .before .before .before .before .before .before .before .before .before .before .before .before .before .before .before .before .before .before .before .before .before .before .loop in
+    let read = c .before .before .before .before .before .before .before .before .before .before .before .before .before .before .before .before .before .before .before .before .before .before .before .before .before .before .before .read in
+    let received = c .before .before .before .before .before .before .before .before .before .before .before .before .before .before .before .before .before .before .receive .ensures in
+    let worked = c .before .before .before .before .before .work .ensures in (
+      worked .ready,
+      worked .rests (c .before .before .if1 .left),
+      going-on (head .inv .2) (c .before .before .before .before .before .before .before .before .before .before .before .before .before .before .before .before .before .before .before .before .before .before .record .ensures) (worked .taped)
+          (went-on _ _ (received .stands _ _) (between (head .m .size) (read .result) (read .last .0)) (read .ensures .0) (worked .goes))
+          (omega (arith, between-length (head .m .size) (read .result) (read .last .0) (read .ensures .1), some (read .result) (c .before .if2 .left))),
+      head .inv .3,
+    )
 
-returns-3 : tie.Need-returns-3 Inv-loop μ-loop
-returns-3 c = tt
+same-length-3 : tie.Need-same-length-3 Inv-loop μ-loop
+same-length-3 c = taped-length (c .before .loop .inv .2 .heard)
+
+same-length-4 : tie.Need-same-length-4 Inv-loop μ-loop
+same-length-4 c = taped-length (c .before .loop .inv .2 .said)
+
+returns-2 : tie.Need-returns-2 Inv-loop μ-loop
+returns-2 c = rw (c .before .loop .inv .3) (going-ran (c .before .loop .inv .2))
 
 pub serve-spec : {M : Type 1} → statement M
 serve-spec =
@@ -78,11 +123,19 @@ serve-spec =
     start-requires
     loop-holds
     read-requires
+    add-record
+    sub-record
+    part-record-start
+    part-record-end
+    record-requires
     receive-requires
     work-requires
+    same-length
+    same-length-2
     returns
-    returns-2
     sub-reads
     loop-less
     loop-again
-    returns-3)
+    same-length-3
+    same-length-4
+    returns-2)

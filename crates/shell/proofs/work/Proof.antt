@@ -1,45 +1,73 @@
--- `shell::work` meets its contract. The loop's invariant: the machine can go on; what falls is what is left to do. Assumes nothing.
-use mathlib.Core.Bool.{true≢false}
+-- `shell::work` meets its contract. The loop's invariant is the contract, with more to do; what falls is what is left to do. Assumes
+-- nothing.
+use mathlib.Core.Path.{sym, _∙_}
+use mathlib.Core.Bool.{true, false, true≢false}
+use lib.Seq.{length-take-le}
 use Rattle.model.specs.Table.{arrays}
 use Rattle.console.specs.Rack.{rack}
-use Rattle.machine.specs.Machine.{stands, bytesOf, Ready}
+use Rattle.machine.specs.Machine.{stands, bytesOf}
+use Rattle.shell.specs.Shell.{Worked}
 use Rattle.shell.proofs.Falling as falling
+use Rattle.shell.proofs.Taping.{taped-length, taped-place}
 use Rattle.shell.proofs.work.Statement.{statement}
 use Rattle.shell.proofs.work.Tie as tie
 
 abbrev Inv-loop : tie.InvT-loop
-Inv-loop block₀ tops₀ ends₀ blocks₀ adjustments₀ second-tops₀ second-ends₀ second-blocks₀ second-adjustments₀ rows₀ out₀ m₀ block tops ends blocks adjustments second-tops second-ends second-blocks second-adjustments rows out m =
-    Ready m
-    (rack (m .state) (arrays tops ends blocks adjustments) (arrays second-tops second-ends second-blocks second-adjustments))
-    block
+Inv-loop m block t e b a t₂ e₂ b₂ a₂ rows out tape n m′ block′ t′ e′ b′ a′ t₂′ e₂′ b₂′ a₂′ rows′ out′ tape′ n′ =
+    Worked m (rack (m .state) (arrays t e b a) (arrays t₂ e₂ b₂ a₂)) block tape n (record { machine = m′; said = n′; more = true })
+    (rack (m′ .state) (arrays t′ e′ b′ a′) (arrays t₂′ e₂′ b₂′ a₂′)) block′ tape′
 
 abbrev μ-loop : tie.MeasureT-loop
-μ-loop block₀ tops₀ ends₀ blocks₀ adjustments₀ second-tops₀ second-ends₀ second-blocks₀ second-adjustments₀ rows₀ out₀ m₀ block tops ends blocks adjustments second-tops second-ends second-blocks second-adjustments rows out m =
-    falling.work
-    (stands m
-    (rack (m .state) (arrays tops ends blocks adjustments) (arrays second-tops second-ends second-blocks second-adjustments))
-    (bytesOf m block))
+μ-loop m block t e b a t₂ e₂ b₂ a₂ rows out tape n m′ block′ t′ e′ b′ a′ t₂′ e₂′ b₂′ a₂′ rows′ out′ tape′ n′ =
+    falling.work (stands m′ (rack (m′ .state) (arrays t′ e′ b′ a′) (arrays t₂′ e₂′ b₂′ a₂′)) (bytesOf m′ block′))
 
 loop-holds : tie.Need-loop-holds Inv-loop μ-loop
-loop-holds c = c .pre
+loop-holds c = falling.worked-none (c .before .pre .0) (c .before .pre .1)
 
 turn-requires : tie.Need-turn-requires Inv-loop μ-loop
-turn-requires c κs = c .before .before .before .before .before .before .before .before .before .before .before .loop .inv
+turn-requires c κs = c .before .before .before .before .before .before .before .before .before .before .before .loop .inv .ready
+
+slice-aggregate-record : tie.Need-slice-aggregate-record Inv-loop μ-loop
+slice-aggregate-record c = sym (length-take-le _ _ (c .before .before .before .before .before .turn .ensures .room))
+
+record-requires : tie.Need-record-requires Inv-loop μ-loop
+record-requires c κs = taped-place (c .before .before .before .before .before .before .before .before .before .before .before .before .before .before .before .before .before .loop .inv .taped)
 
 write-requires : tie.Need-write-requires Inv-loop μ-loop
-write-requires c κs = c .before .before .before .turn .ensures .room
+write-requires c κs = c .before .before .before .before .before .before .before .before .before .before .turn .ensures .room
+
+same-length : tie.Need-same-length Inv-loop μ-loop
+same-length c =
+    let turned = c .before .before .before .before .before .before .before .before .before .before .before .before .before in
+    let inv = turned .before .before .before .before .before .before .before .before .before .before .before .before .loop .inv in
+    taped-length (c .before .before .before .before .before .before .before .record .ensures) ∙ taped-length (inv .taped)
 
 returns : tie.Need-returns Inv-loop μ-loop
-returns c = (c .before .before .before .before .before .turn .ensures .ready, λ e. absurd (true≢false e))
+returns c =
+    let turned = c .before .before .before .before .before .before .before .before .before .before .before .before .before in
+    let inv = turned .before .before .before .before .before .before .before .before .before .before .before .before .loop .inv in
+    falling.worked-then inv (turned .turn .ensures) (c .before .before .before .before .before .before .before .record .ensures) false (λ e. falling.not-true _ (c .if1 .taken))
+
+same-length-2 : tie.Need-same-length-2 Inv-loop μ-loop
+same-length-2 c =
+    let turned = c .before .before .before .before .before .before .before .before .before .before .before .before .before .before in
+    let inv = turned .before .before .before .before .before .before .before .before .before .before .before .before .loop .inv in
+    taped-length (c .before .before .before .before .before .before .before .before .record .ensures) ∙ taped-length (inv .taped)
 
 returns-2 : tie.Need-returns-2 Inv-loop μ-loop
-returns-2 c = let turned = c .before .before .before .before .before .before .before .turn .ensures in (turned .ready, turned .rests)
+returns-2 c =
+    let turned = c .before .before .before .before .before .before .before .before .before .before .before .before .before .before in
+    let inv = turned .before .before .before .before .before .before .before .before .before .before .before .before .loop .inv in
+    falling.worked-then inv (turned .turn .ensures) (c .before .before .before .before .before .before .before .before .record .ensures) true (λ e. absurd (true≢false e))
 
 loop-less : tie.Need-loop-less Inv-loop μ-loop
-loop-less c = falling.falls (c .before .before .before .before .before .before .before .turn .ensures .turned) (falling.not-false _ (c .if2 .left))
+loop-less c = falling.falls (c .before .before .before .before .before .before .before .before .before .before .before .before .before .before .turn .ensures .turned) (falling.not-false _ (c .before .if1 .left))
 
 loop-again : tie.Need-loop-again Inv-loop μ-loop
-loop-again c = c .before .before .before .before .before .before .before .turn .ensures .ready
+loop-again c =
+    let turned = c .before .before .before .before .before .before .before .before .before .before .before .before .before .before in
+    let inv = turned .before .before .before .before .before .before .before .before .before .before .before .before .loop .inv in
+    falling.worked-then inv (turned .turn .ensures) (c .before .before .before .before .before .before .before .before .record .ensures) true (λ e. absurd (true≢false e))
 
 pub work-spec : {M : Type 1} → statement M
 work-spec =
@@ -49,8 +77,12 @@ work-spec =
     μ-loop
     loop-holds
     turn-requires
+    slice-aggregate-record
+    record-requires
     write-requires
+    same-length
     returns
+    same-length-2
     returns-2
     loop-less
     loop-again)
