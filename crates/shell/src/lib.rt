@@ -106,19 +106,18 @@ fn work(
         m = after.machine;
         let text = &out[..];
         said = record(tape, said, &text[..after.put]);
-        let open = write(out, after.put);
+        if !write(out, after.put) {
+            return Done {
+                machine: m,
+                said,
+                more: true,
+            };
+        }
         if !after.more {
             return Done {
                 machine: m,
                 said,
                 more: false,
-            };
-        }
-        if !open {
-            return Done {
-                machine: m,
-                said,
-                more: true,
             };
         }
     }

@@ -38,15 +38,15 @@ write-requires c κs = c .before .before .before .before .before .before .before
 
 same-length : tie.Need-same-length Inv-loop μ-loop
 same-length c =
-    let turned = c .before .before .before .before .before .before .before .before .before .before .before .before .before in
+    let turned = c .before .before .before .before .before .before .before .before .before .before .before .before in
     let inv = turned .before .before .before .before .before .before .before .before .before .before .before .before .loop .inv in
-    taped-length (c .before .before .before .before .before .before .before .record .ensures) ∙ taped-length (inv .taped)
+    taped-length (c .before .before .before .before .before .before .record .ensures) ∙ taped-length (inv .taped)
 
 returns : tie.Need-returns Inv-loop μ-loop
 returns c =
-    let turned = c .before .before .before .before .before .before .before .before .before .before .before .before .before in
+    let turned = c .before .before .before .before .before .before .before .before .before .before .before .before in
     let inv = turned .before .before .before .before .before .before .before .before .before .before .before .before .loop .inv in
-    falling.worked-then inv (turned .turn .ensures) (c .before .before .before .before .before .before .before .record .ensures) false (λ e. falling.not-true _ (c .if1 .taken))
+    falling.worked-then inv (turned .turn .ensures) (c .before .before .before .before .before .before .record .ensures) true (λ e. absurd (true≢false e))
 
 same-length-2 : tie.Need-same-length-2 Inv-loop μ-loop
 same-length-2 c =
@@ -58,10 +58,10 @@ returns-2 : tie.Need-returns-2 Inv-loop μ-loop
 returns-2 c =
     let turned = c .before .before .before .before .before .before .before .before .before .before .before .before .before .before in
     let inv = turned .before .before .before .before .before .before .before .before .before .before .before .before .loop .inv in
-    falling.worked-then inv (turned .turn .ensures) (c .before .before .before .before .before .before .before .before .record .ensures) true (λ e. absurd (true≢false e))
+    falling.worked-then inv (turned .turn .ensures) (c .before .before .before .before .before .before .before .before .record .ensures) false (λ e. falling.not-true _ (c .if2 .taken))
 
 loop-less : tie.Need-loop-less Inv-loop μ-loop
-loop-less c = falling.falls (c .before .before .before .before .before .before .before .before .before .before .before .before .before .before .turn .ensures .turned) (falling.not-false _ (c .before .if1 .left))
+loop-less c = falling.falls (c .before .before .before .before .before .before .before .before .before .before .before .before .before .before .turn .ensures .turned) (falling.not-false _ (c .if2 .left))
 
 loop-again : tie.Need-loop-again Inv-loop μ-loop
 loop-again c =
