@@ -16,11 +16,11 @@ use Rattle.shell.proofs.serve.Tie as tie
 
 abbrev Inv-loop : tie.InvT-loop
 Inv-loop h s block t e b a t₂ e₂ b₂ a₂ rows out m r reads h′ s′ block′ t′ e′ b′ a′ t₂′ e₂′ b₂′ a₂′ rows′ out′ m′ r′ reads′ =
-    Ready m′ (rack (m′ .state) (arrays t′ e′ b′ a′) (arrays t₂′ e₂′ b₂′ a₂′)) block′
-    × Rests m′ block′
-    × Going h s h′ s′ (r′ .heard) (r′ .said)
+    Going h s h′ s′ (r′ .heard) (r′ .said)
     (stands m′ (rack (m′ .state) (arrays t′ e′ b′ a′) (arrays t₂′ e₂′ b₂′ a₂′)) (bytesOf m′ block′))
     × (r′ .whole ≡ false)
+    × Ready m′ (rack (m′ .state) (arrays t′ e′ b′ a′) (arrays t₂′ e₂′ b₂′ a₂′)) block′
+    × Rests m′ block′
 
 abbrev μ-loop : tie.MeasureT-loop
 μ-loop h s block t e b a t₂ e₂ b₂ a₂ rows out m r reads h′ s′ block′ t′ e′ b′ a′ t₂′ e₂′ b₂′ a₂′ rows′ out′ m′ r′ reads′ = reads′
@@ -36,10 +36,10 @@ loop-holds : tie.Need-loop-holds Inv-loop μ-loop
 loop-holds c =
     let begins = c .start .ensures in
     let pre = c .before .before .before .pre in
-    (begins .ready _ _ _ (pre .0) (pre .1), begins .rests _, going-none _ _ _ (begins .stands _ _ _), refl)
+    (going-none _ _ _ (begins .stands _ _ _), refl, begins .ready _ _ _ (pre .0) (pre .1), begins .rests _)
 
 read-requires : tie.Need-read-requires Inv-loop μ-loop
-read-requires c κs = omega (arith, c .before .before .loop .inv .1 .few)
+read-requires c κs = omega (arith, c .before .before .loop .inv .3 .few)
 
 add-record : tie.Need-add-record Inv-loop μ-loop
 add-record c = omega (arith, c .before .before .before .read .ensures .1)
@@ -54,25 +54,25 @@ part-record-end : tie.Need-part-record-end Inv-loop μ-loop
 part-record-end c = omega (arith, c .before .before .before .read .ensures .1)
 
 record-requires : tie.Need-record-requires Inv-loop μ-loop
-record-requires c κs = taped-place (c .before .before .before .before .before .before .before .loop .inv .2 .heard)
+record-requires c κs = taped-place (c .before .before .before .before .before .before .before .loop .inv .0 .heard)
 
 receive-requires : tie.Need-receive-requires Inv-loop μ-loop
 receive-requires c κs =
     let inv = c .before .before .before .before .before .before .before .before .before .before .before .loop .inv in
     let read = c .before .before .before .before .before .before .before .before .read .ensures in
-    (rests-read (inv .1) (read .0), inv .0 .from, omega (arith, inv .1 .few), read .1)
+    (rests-read (inv .3) (read .0), inv .2 .from, omega (arith, inv .3 .few), read .1)
 
 work-requires : tie.Need-work-requires Inv-loop μ-loop
 work-requires c κs =
     let received = c .before .before .before .before .before .before .before .before .before .before .before .before in
     let inv = received .before .before .before .before .before .before .before .before .before .before .before .before .loop .inv in
-    (received .receive .ensures .ready _ _ (ready-read (inv .0) (omega (arith, inv .1 .few))), taped-place (inv .2 .said))
+    (received .receive .ensures .ready _ _ (ready-read (inv .2) (omega (arith, inv .3 .few))), taped-place (inv .0 .said))
 
 same-length : tie.Need-same-length Inv-loop μ-loop
-same-length c = taped-length (c .before .before .before .before .before .before .before .before .before .before .before .before .before .before .before .before .before .before .before .before .before .record .ensures) ∙ taped-length (c .before .before .before .before .before .before .before .before .before .before .before .before .before .before .before .before .before .before .before .before .before .before .before .before .before .before .before .before .before .loop .inv .2 .heard)
+same-length c = taped-length (c .before .before .before .before .before .before .before .before .before .before .before .before .before .before .before .before .before .before .before .before .before .record .ensures) ∙ taped-length (c .before .before .before .before .before .before .before .before .before .before .before .before .before .before .before .before .before .before .before .before .before .before .before .before .before .before .before .before .before .loop .inv .0 .heard)
 
 same-length-2 : tie.Need-same-length-2 Inv-loop μ-loop
-same-length-2 c = taped-length (c .before .before .before .before .work .ensures .taped) ∙ taped-length (c .before .before .before .before .before .before .before .before .before .before .before .before .before .before .before .before .before .before .before .before .before .before .before .before .before .before .before .before .before .loop .inv .2 .said)
+same-length-2 c = taped-length (c .before .before .before .before .work .ensures .taped) ∙ taped-length (c .before .before .before .before .before .before .before .before .before .before .before .before .before .before .before .before .before .before .before .before .before .before .before .before .before .before .before .before .before .loop .inv .0 .said)
 
 returns : tie.Need-returns Inv-loop μ-loop
 returns c =
@@ -80,9 +80,9 @@ returns c =
     let read = c .before .before .before .before .before .before .before .before .before .before .before .before .before .before .before .before .before .before .before .before .before .before .before .before .before .before .read in
     let received = c .before .before .before .before .before .before .before .before .before .before .before .before .before .before .before .before .before .receive .ensures in
     let worked = c .before .before .before .before .work .ensures in
-    going-ends (head .inv .2) (c .before .before .before .before .before .before .before .before .before .before .before .before .before .before .before .before .before .before .before .before .before .record .ensures) (worked .taped)
+    going-ends (head .inv .0) (c .before .before .before .before .before .before .before .before .before .before .before .before .before .before .before .before .before .before .before .before .before .record .ensures) (worked .taped)
     (went-on _ _ (received .stands _ _) (between (head .m .size) (read .result) (read .last .0)) (read .ensures .0) (worked .goes))
-    (rests-idle _ (head .inv .1)) _
+    (rests-idle _ (head .inv .3)) _
     (λ e. (between-length (head .m .size) (read .result) (read .last .0) (read .ensures .1) ∙ ⊎-elim (λ w. absurd (true≢false (sym (w .taken) ∙ not-true _ e))) (λ w. none _ (w .1 .taken)) (c .before .if1 .came), rests-idle _ (worked .rests (not-true _ e))))
 
 sub-reads : tie.Need-sub-reads Inv-loop μ-loop
@@ -97,22 +97,22 @@ loop-again c =
     let read = c .before .before .before .before .before .before .before .before .before .before .before .before .before .before .before .before .before .before .before .before .before .before .before .before .before .before .before .read in
     let received = c .before .before .before .before .before .before .before .before .before .before .before .before .before .before .before .before .before .before .receive .ensures in
     let worked = c .before .before .before .before .before .work .ensures in (
-      worked .ready,
-      worked .rests (c .before .before .if1 .left),
-      going-on (head .inv .2) (c .before .before .before .before .before .before .before .before .before .before .before .before .before .before .before .before .before .before .before .before .before .before .record .ensures) (worked .taped)
+      going-on (head .inv .0) (c .before .before .before .before .before .before .before .before .before .before .before .before .before .before .before .before .before .before .before .before .before .before .record .ensures) (worked .taped)
           (went-on _ _ (received .stands _ _) (between (head .m .size) (read .result) (read .last .0)) (read .ensures .0) (worked .goes))
           (omega (arith, between-length (head .m .size) (read .result) (read .last .0) (read .ensures .1), some (read .result) (c .before .if2 .left))),
-      head .inv .3,
+      head .inv .1,
+      worked .ready,
+      worked .rests (c .before .before .if1 .left),
     )
 
 same-length-3 : tie.Need-same-length-3 Inv-loop μ-loop
-same-length-3 c = taped-length (c .before .loop .inv .2 .heard)
+same-length-3 c = taped-length (c .before .loop .inv .0 .heard)
 
 same-length-4 : tie.Need-same-length-4 Inv-loop μ-loop
-same-length-4 c = taped-length (c .before .loop .inv .2 .said)
+same-length-4 c = taped-length (c .before .loop .inv .0 .said)
 
 returns-2 : tie.Need-returns-2 Inv-loop μ-loop
-returns-2 c = rw (c .before .loop .inv .3) (going-ran (c .before .loop .inv .2))
+returns-2 c = rw (c .before .loop .inv .1) (going-ran (c .before .loop .inv .0))
 
 pub serve-spec : {M : Type 1} → statement M
 serve-spec =
