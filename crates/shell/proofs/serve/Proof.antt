@@ -69,40 +69,70 @@ work-requires c κs =
     (received .receive .ensures .ready _ _ (ready-read (inv .2) (omega (arith, inv .3 .few))), taped-place (inv .0 .said))
 
 same-length : tie.Need-same-length Inv-loop μ-loop
-same-length c = taped-length (c .before .before .before .before .before .before .before .before .before .before .before .before .before .before .before .before .before .before .before .before .before .record .ensures) ∙ taped-length (c .before .before .before .before .before .before .before .before .before .before .before .before .before .before .before .before .before .before .before .before .before .before .before .before .before .before .before .before .before .loop .inv .0 .heard)
+same-length c =
+    let worked = c .before .before .before .before in
+    let received = worked .before .before .before .before .before .before .before .before .before .before .before .before .before in
+    let recorded = received .before .before .before .before in
+    let inv = recorded .before .before .before .before .before .before .before .before .loop .inv in
+    taped-length (recorded .record .ensures) ∙ taped-length (inv .0 .heard)
 
 same-length-2 : tie.Need-same-length-2 Inv-loop μ-loop
-same-length-2 c = taped-length (c .before .before .before .before .work .ensures .taped) ∙ taped-length (c .before .before .before .before .before .before .before .before .before .before .before .before .before .before .before .before .before .before .before .before .before .before .before .before .before .before .before .before .before .loop .inv .0 .said)
+same-length-2 c =
+    let worked = c .before .before .before .before in
+    let received = worked .before .before .before .before .before .before .before .before .before .before .before .before .before in
+    let inv = received .before .before .before .before .before .before .before .before .before .before .before .before .loop .inv in
+    taped-length (worked .work .ensures .taped) ∙ taped-length (inv .0 .said)
 
 returns : tie.Need-returns Inv-loop μ-loop
 returns c =
-    let head = c .before .before .before .before .before .before .before .before .before .before .before .before .before .before .before .before .before .before .before .before .before .before .before .before .before .before .before .before .before .loop in
-    let read = c .before .before .before .before .before .before .before .before .before .before .before .before .before .before .before .before .before .before .before .before .before .before .before .before .before .before .read in
-    let received = c .before .before .before .before .before .before .before .before .before .before .before .before .before .before .before .before .before .receive .ensures in
-    let worked = c .before .before .before .before .work .ensures in
-    going-ends (head .inv .0) (c .before .before .before .before .before .before .before .before .before .before .before .before .before .before .before .before .before .before .before .before .before .record .ensures) (worked .taped)
-    (went-on _ _ (received .stands _ _) (between (head .m .size) (read .result) (read .last .0)) (read .ensures .0) (worked .goes))
+    let worked = c .before .before .before .before in
+    let received = worked .before .before .before .before .before .before .before .before .before .before .before .before .before in
+    let recorded = received .before .before .before .before in
+    let read = recorded .before .before .before .before .before in
+    let head = read .before .before .before .loop in
+    let size = head .m .size in
+    let got = read .read .result in
+    let bytes = read .read .last .0 in
+    let goes = worked .work .ensures .goes in
+    going-ends (head .inv .0) (recorded .record .ensures) (worked .work .ensures .taped)
+    (went-on _ _ (received .receive .ensures .stands _ _) (between size got bytes) (read .read .ensures .0) goes)
     (rests-idle _ (head .inv .3)) _
-    (λ e. (between-length (head .m .size) (read .result) (read .last .0) (read .ensures .1) ∙ ⊎-elim (λ w. absurd (true≢false (sym (w .taken) ∙ not-true _ e))) (λ w. none _ (w .1 .taken)) (c .before .if1 .came), rests-idle _ (worked .rests (not-true _ e))))
+    (λ e.
+    let none-left = not-true _ e in (
+      between-length size got bytes (read .read .ensures .1)
+          ∙ ⊎-elim (λ w. absurd (true≢false (sym (w .taken) ∙ none-left))) (λ w. none _ (w .1 .taken)) (c .before .if1 .came),
+      rests-idle _ (worked .work .ensures .rests none-left),
+    ))
 
 sub-reads : tie.Need-sub-reads Inv-loop μ-loop
-sub-reads c = c .before .before .before .before .before .before .before .before .before .before .before .before .before .before .before .before .before .before .before .before .before .before .before .before .before .before .before .before .before .loop-test .taken
+sub-reads c =
+    let worked = c .before .before .before .before .before in
+    let received = worked .before .before .before .before .before .before .before .before .before .before .before .before .before in
+    received .before .before .before .before .before .before .before .before .before .before .before .loop-test .taken
 
 loop-less : tie.Need-loop-less Inv-loop μ-loop
-loop-less c = one-less _ (c .before .before .before .before .before .before .before .before .before .before .before .before .before .before .before .before .before .before .before .before .before .before .before .before .before .before .before .before .before .loop-test .taken)
+loop-less c =
+    let worked = c .before .before .before .before .before in
+    let received = worked .before .before .before .before .before .before .before .before .before .before .before .before .before in
+    one-less _ (received .before .before .before .before .before .before .before .before .before .before .before .loop-test .taken)
 
 loop-again : tie.Need-loop-again Inv-loop μ-loop
 loop-again c =
-    let head = c .before .before .before .before .before .before .before .before .before .before .before .before .before .before .before .before .before .before .before .before .before .before .before .before .before .before .before .before .before .before .loop in
-    let read = c .before .before .before .before .before .before .before .before .before .before .before .before .before .before .before .before .before .before .before .before .before .before .before .before .before .before .before .read in
-    let received = c .before .before .before .before .before .before .before .before .before .before .before .before .before .before .before .before .before .before .receive .ensures in
-    let worked = c .before .before .before .before .before .work .ensures in (
-      going-on (head .inv .0) (c .before .before .before .before .before .before .before .before .before .before .before .before .before .before .before .before .before .before .before .before .before .before .record .ensures) (worked .taped)
-          (went-on _ _ (received .stands _ _) (between (head .m .size) (read .result) (read .last .0)) (read .ensures .0) (worked .goes))
-          (omega (arith, between-length (head .m .size) (read .result) (read .last .0) (read .ensures .1), some (read .result) (c .before .if2 .left))),
+    let worked = c .before .before .before .before .before in
+    let received = worked .before .before .before .before .before .before .before .before .before .before .before .before .before in
+    let recorded = received .before .before .before .before in
+    let read = recorded .before .before .before .before .before in
+    let head = read .before .before .before .loop in
+    let size = head .m .size in
+    let got = read .read .result in
+    let bytes = read .read .last .0 in
+    let goes = worked .work .ensures .goes in (
+      going-on (head .inv .0) (recorded .record .ensures) (worked .work .ensures .taped)
+          (went-on _ _ (received .receive .ensures .stands _ _) (between size got bytes) (read .read .ensures .0) goes)
+          (omega (arith, between-length size got bytes (read .read .ensures .1), some got (c .before .if2 .left))),
       head .inv .1,
-      worked .ready,
-      worked .rests (c .before .before .if1 .left),
+      worked .work .ensures .ready,
+      worked .work .ensures .rests (c .before .before .if1 .left),
     )
 
 same-length-3 : tie.Need-same-length-3 Inv-loop μ-loop

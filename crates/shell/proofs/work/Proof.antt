@@ -31,43 +31,52 @@ slice-aggregate-record : tie.Need-slice-aggregate-record Inv-loop μ-loop
 slice-aggregate-record c = sym (length-take-le _ _ (c .before .before .before .before .before .turn .ensures .room))
 
 record-requires : tie.Need-record-requires Inv-loop μ-loop
-record-requires c κs = taped-place (c .before .before .before .before .before .before .before .before .before .before .before .before .before .before .before .before .before .loop .inv .taped)
+record-requires c κs =
+    let turned = c .before .before .before .before .before in
+    taped-place (turned .before .before .before .before .before .before .before .before .before .before .before .before .loop .inv .taped)
 
 write-requires : tie.Need-write-requires Inv-loop μ-loop
 write-requires c κs = c .before .before .before .before .before .before .before .before .before .before .turn .ensures .room
 
 same-length : tie.Need-same-length Inv-loop μ-loop
 same-length c =
-    let turned = c .before .before .before .before .before .before .before .before .before .before .before .before in
+    let recorded = c .before .before .before .before .before .before in
+    let turned = recorded .before .before .before .before .before .before in
     let inv = turned .before .before .before .before .before .before .before .before .before .before .before .before .loop .inv in
-    taped-length (c .before .before .before .before .before .before .record .ensures) ∙ taped-length (inv .taped)
+    taped-length (recorded .record .ensures) ∙ taped-length (inv .taped)
 
 returns : tie.Need-returns Inv-loop μ-loop
 returns c =
-    let turned = c .before .before .before .before .before .before .before .before .before .before .before .before in
+    let recorded = c .before .before .before .before .before .before in
+    let turned = recorded .before .before .before .before .before .before in
     let inv = turned .before .before .before .before .before .before .before .before .before .before .before .before .loop .inv in
-    falling.worked-then inv (turned .turn .ensures) (c .before .before .before .before .before .before .record .ensures) true (λ e. absurd (true≢false e))
+    falling.worked-then inv (turned .turn .ensures) (recorded .record .ensures) true (λ e. absurd (true≢false e))
 
 same-length-2 : tie.Need-same-length-2 Inv-loop μ-loop
 same-length-2 c =
-    let turned = c .before .before .before .before .before .before .before .before .before .before .before .before .before .before in
+    let recorded = c .before .before .before .before .before .before .before .before in
+    let turned = recorded .before .before .before .before .before .before in
     let inv = turned .before .before .before .before .before .before .before .before .before .before .before .before .loop .inv in
-    taped-length (c .before .before .before .before .before .before .before .before .record .ensures) ∙ taped-length (inv .taped)
+    taped-length (recorded .record .ensures) ∙ taped-length (inv .taped)
 
 returns-2 : tie.Need-returns-2 Inv-loop μ-loop
 returns-2 c =
-    let turned = c .before .before .before .before .before .before .before .before .before .before .before .before .before .before in
+    let recorded = c .before .before .before .before .before .before .before .before in
+    let turned = recorded .before .before .before .before .before .before in
     let inv = turned .before .before .before .before .before .before .before .before .before .before .before .before .loop .inv in
-    falling.worked-then inv (turned .turn .ensures) (c .before .before .before .before .before .before .before .before .record .ensures) false (λ e. falling.not-true _ (c .if2 .taken))
+    falling.worked-then inv (turned .turn .ensures) (recorded .record .ensures) false (λ e. falling.not-true _ (c .if2 .taken))
 
 loop-less : tie.Need-loop-less Inv-loop μ-loop
-loop-less c = falling.falls (c .before .before .before .before .before .before .before .before .before .before .before .before .before .before .turn .ensures .turned) (falling.not-false _ (c .if2 .left))
+loop-less c =
+    let turned = c .before .before .before .before .before .before .before .before .before .before .before .before .before .before in
+    falling.falls (turned .turn .ensures .turned) (falling.not-false _ (c .if2 .left))
 
 loop-again : tie.Need-loop-again Inv-loop μ-loop
 loop-again c =
-    let turned = c .before .before .before .before .before .before .before .before .before .before .before .before .before .before in
+    let recorded = c .before .before .before .before .before .before .before .before in
+    let turned = recorded .before .before .before .before .before .before in
     let inv = turned .before .before .before .before .before .before .before .before .before .before .before .before .loop .inv in
-    falling.worked-then inv (turned .turn .ensures) (c .before .before .before .before .before .before .before .before .record .ensures) true (λ e. absurd (true≢false e))
+    falling.worked-then inv (turned .turn .ensures) (recorded .record .ensures) true (λ e. absurd (true≢false e))
 
 pub work-spec : {M : Type 1} → statement M
 work-spec =
