@@ -1,9 +1,11 @@
 -- `machine::keep` meets its contract. The loop's invariant: the first bytes are at the front. Assumes nothing.
-use Prim.Native.Nat.{_-_}
+use Prim.Native.Nat.{ℕ, _-_}
+use mathlib.Core.Path.{ap}
 use native.Mathlib.Omega.{arith}
 use Rattle.model.proofs.Entries.{put-length}
 use mathlib.Core.Logic.{inl, inr}
 use Rattle.machine.specs.Machine.{keptBytes}
+use Rattle.machine.specs.declared.Machine.{Machine}
 use Rattle.machine.proofs.Receiving.{Kept, kept-none, kept-more, kept-all}
 use Rattle.machine.proofs.keep.Statement.{statement}
 use Rattle.machine.proofs.keep.Tie as tie
@@ -41,14 +43,22 @@ loop-again c = kept-more (c .before .before .before .before .loop .inv) (c .befo
 same-length : tie.Need-same-length Inv-loop μ-loop
 same-length c = put-length (c .before .loop .inv .put)
 
+-- a machine with as many bytes at the front
+abbrev with-size : Machine → ℕ → Machine
+with-size m n = record { state = m .state; listing = m .listing; row = m .row; from = 0; size = n }
+
 returns : tie.Need-returns Inv-loop μ-loop
-returns c = let all = kept-all (c .before .loop .inv) (inl (c .loop-test .left)) in (rw (all .0), all .1)
+returns c =
+    let all = kept-all (c .before .loop .inv) (inl (c .loop-test .left)) in
+    (ap (with-size (c .before .before .args .m)) (all .0), all .1)
 
 same-length-2 : tie.Need-same-length-2 Inv-loop μ-loop
 same-length-2 c = put-length (c .before .before .before .loop .inv .put)
 
 returns-2 : tie.Need-returns-2 Inv-loop μ-loop
-returns-2 c = let all = kept-all (c .before .before .before .loop .inv) (inr (c .if1 .taken)) in (rw (all .0), all .1)
+returns-2 c =
+    let all = kept-all (c .before .before .before .loop .inv) (inr (c .if1 .taken)) in
+    (ap (with-size (c .before .before .before .before .args .m)) (all .0), all .1)
 
 pub keep-spec : {M : Type 1} → statement M
 keep-spec =
