@@ -104,33 +104,16 @@ pub fn grown(
         (given «new_tops» «new_ends» «new_blocks» «new_adjustments») (left «new_tops» «new_ends» «new_blocks» «new_adjustments») r
         ⌝ }
 {
-    let wrong = expansion_plan::growth_refusal(
-        header,
-        tops,
-        ends,
-        blocks,
-        adjustments,
-        buckets,
-        bins,
-    );
+    let wrong = expansion_plan::growth_refusal(header, tops, buckets, bins);
     if wrong != 0 {
         return refused_table(wrong);
     }
     let mut olds = [0u32; BLOCKS];
     let mut dues = [0u32; BLOCKS];
-    expansion_plan::dues_before(header, tops, ends, blocks, adjustments, &mut olds);
-    expansion_plan::dues_after(
-        header,
-        tops,
-        ends,
-        blocks,
-        adjustments,
-        buckets,
-        bins,
-        &mut dues,
-    );
+    expansion_plan::dues_before(header, tops, &mut olds);
+    expansion_plan::dues_after(header, tops, buckets, bins, &mut dues);
     let falls = expansion_plan::some_fall(header.block_count, &olds, &dues);
-    let block_count = expansion_plan::blocks_after(header, tops, ends, blocks, adjustments, bins);
+    let block_count = expansion_plan::blocks_after(header, tops, bins);
     accepted(
         header,
         tops,
@@ -179,27 +162,11 @@ pub fn relocated(
         MovesReply (tableGiven header tops ends blocks adjustments) (sizes buckets bins) first (now (rows .entry)) (now (rows .exit)) r
         ⌝ }
 {
-    let wrong = expansion_plan::growth_refusal(
-        header,
-        tops,
-        ends,
-        blocks,
-        adjustments,
-        buckets,
-        bins,
-    );
+    let wrong = expansion_plan::growth_refusal(header, tops, buckets, bins);
     if wrong != 0 {
         return refused_list(wrong);
     }
-    let total = relocations::relocation_count(
-        header,
-        tops,
-        ends,
-        blocks,
-        adjustments,
-        buckets,
-        bins,
-    );
+    let total = relocations::relocation_count(header, tops, buckets, bins);
     if total < first {
         return refused_list(9);
     }

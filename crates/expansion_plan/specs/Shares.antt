@@ -1,4 +1,4 @@
--- Arrays of 65 numbers, one for each block, as the contracts cite them. Assumes nothing.
+-- The tops that a growth reads, and arrays of 65 numbers, one for each block, as the contracts cite them. Assumes nothing.
 use Prim.Native.Nat.{ℕ, _≤_, _<_}
 use mathlib.Core.Path.{_≡_}
 use mathlib.Core.List.{List}
@@ -6,7 +6,16 @@ use lib.ListN.{length, getD}
 use Rattle.model.specs.Basics.{before}
 use Rattle.model.specs.Limits.{maxBlocks}
 use Rattle.model.specs.Table.{Shape, Table}
+use Rattle.model.specs.Lent.{TopsSound, lent}
+use Rattle.model.specs.Refusal.{first}
 use Rattle.model.specs.Expansion.{has, dueAfter}
+use Rattle.model.specs.Calls.{growthTests}
+use Rattle.model.specs.declared.table.Header.{Header}
+
+-- tops of a sound table whose growth to sizes s is accepted
+pub record TopsAsked (h : Header) (tops : List ℕ) (s : Shape) : Type 0 where
+  pub whole : TopsSound h tops
+  pub asked : first (growthTests (lent h tops (whole .ends) (whole .blocks) (whole .adjustments)) s) ≡ 0
 
 -- `count` rising tops of a map with at least that many bins
 pub record TopsWithin (tops : List ℕ) (count bins : ℕ) : Type 0 where

@@ -1,15 +1,17 @@
 // What a growth asks for and does, on a sound table: its refusals, the dues after it, and the plan for an interval.
 ghost use Prim.Native.Nat.{ℕ, _<_, _≤_};
+ghost use mathlib.Core.List.{List};
 ghost use mathlib.Core.Path.{_≡_};
 ghost use lib.ListN.{length, getD, take, replicate};
-ghost use Rattle.model.specs.Lent.{LentSound, tableGiven, tableNow};
+ghost use Rattle.model.specs.Lent.{TopsSound, lent};
 ghost use Rattle.model.specs.Limits.{maxBlocks};
-ghost use Rattle.model.specs.Table.{Shape, Table, interval, sizes};
+ghost use Rattle.model.specs.Table.{Shape, Table, arrays, interval, sizes};
 ghost use Rattle.model.specs.Due.{dueOfBlock};
 ghost use Rattle.model.specs.Refusal.{first};
+ghost use Rattle.model.specs.Sound.{Sound};
 ghost use Rattle.model.specs.Expansion.{newTops, someFall, plan};
 ghost use Rattle.model.specs.Calls.{growthTests};
-ghost use Rattle.expansion_plan.specs.Shares.{TopsWithin, DuesBefore, DuesAfter, IntervalAt};
+ghost use Rattle.expansion_plan.specs.Shares.{TopsAsked, TopsWithin, DuesBefore, DuesAfter, IntervalAt};
 use model::limits::BLOCKS;
 use model::limits::MAX_BLOCKS;
 use model::plan::Action;
@@ -20,17 +22,10 @@ use table::bin_count;
 use table::due_below;
 
 // The number of the first of rules 1 to 5 that the growth breaks, or 0.
-pub fn growth_refusal(
-    h: Header,
-    tops: &[u32],
-    ends: &[u32],
-    blocks: &[u32],
-    adjustments: &[u32],
-    buckets: u32,
-    bins: u32,
-) -> u32
-    requires { ⌜ LentSound h tops ends blocks adjustments ⌝ }
-    ensures { λ r. ⌜ r ≡ first (growthTests (tableGiven h tops ends blocks adjustments) (sizes buckets bins)) ⌝ }
+pub fn growth_refusal(h: Header, tops: &[u32], buckets: u32, bins: u32) -> u32
+    requires { ⌜ TopsSound h (now tops) ⌝ }
+    ensures { λ r. ⌜ ((ends blocks adjustments : List ℕ)
+        → r ≡ first (growthTests (lent h (now (tops .entry)) ends blocks adjustments) (sizes buckets bins))) ⌝ }
 {
     let refusal = size_refusal(buckets, bins);
     if refusal != 0 {
@@ -39,7 +34,7 @@ pub fn growth_refusal(
     if buckets < h.buckets {
         return 3;
     }
-    let old = bin_count(h, tops, ends, blocks, adjustments);
+    let old = bin_count(h, tops);
     if bins < old {
         return 3;
     }
@@ -56,18 +51,12 @@ pub fn growth_refusal(
 }
 
 // The number of blocks after the growth: one more if there are more bins.
-pub fn blocks_after(
-    h: Header,
-    tops: &[u32],
-    ends: &[u32],
-    blocks: &[u32],
-    adjustments: &[u32],
-    bins: u32,
-) -> u32
-    requires { ⌜ LentSound h tops ends blocks adjustments ⌝ }
-    ensures { λ r. ⌜ ((s : Shape) → s .bins ≡ bins → r ≡ length (newTops (tableGiven h tops ends blocks adjustments) s)) ⌝ }
+pub fn blocks_after(h: Header, tops: &[u32], bins: u32) -> u32
+    requires { ⌜ TopsSound h (now tops) ⌝ }
+    ensures { λ r. ⌜ ((ends blocks adjustments : List ℕ) (s : Shape) → s .bins ≡ bins
+        → r ≡ length (newTops (lent h (now (tops .entry)) ends blocks adjustments) s)) ⌝ }
 {
-    let old = bin_count(h, tops, ends, blocks, adjustments);
+    let old = bin_count(h, tops);
     if old < bins {
         return h.block_count + 1;
     }
@@ -97,39 +86,24 @@ fn block_dues(tops: &[u32], count: usize, buckets: u32, bins: u32, dues: &mut [u
 }
 
 // What each block has, written over zeros: a block of a sound table has its due.
-pub fn dues_before(
-    h: Header,
-    tops: &[u32],
-    ends: &[u32],
-    blocks: &[u32],
-    adjustments: &[u32],
-    olds: &mut [u32; BLOCKS],
-)
-    requires { ⌜ LentSound h tops ends blocks adjustments ⌝ }
+pub fn dues_before(h: Header, tops: &[u32], olds: &mut [u32; BLOCKS])
+    requires { ⌜ TopsSound h (now tops) ⌝ }
     requires { ⌜ now olds ≡ replicate maxBlocks 0 ⌝ }
-    ensures { λ _. ⌜ DuesBefore (tableGiven h tops ends blocks adjustments) (now (olds .exit)) ⌝ }
+    ensures { λ _. ⌜ ((ends blocks adjustments : List ℕ) → Sound h (arrays (now (tops .entry)) ends blocks adjustments)
+        → DuesBefore (lent h (now (tops .entry)) ends blocks adjustments) (now (olds .exit))) ⌝ }
 {
-    let bins = bin_count(h, tops, ends, blocks, adjustments);
+    let bins = bin_count(h, tops);
     block_dues(tops, h.block_count as usize, h.buckets, bins, olds);
 }
 
 // What each block is due after the growth, written over zeros: the new one what the old bins leave.
-pub fn dues_after(
-    h: Header,
-    tops: &[u32],
-    ends: &[u32],
-    blocks: &[u32],
-    adjustments: &[u32],
-    buckets: u32,
-    bins: u32,
-    dues: &mut [u32; BLOCKS],
-)
-    requires { ⌜ LentSound h tops ends blocks adjustments ⌝ }
-    requires { ⌜ first (growthTests (tableNow h tops ends blocks adjustments) (sizes buckets bins)) ≡ 0 ⌝ }
+pub fn dues_after(h: Header, tops: &[u32], buckets: u32, bins: u32, dues: &mut [u32; BLOCKS])
+    requires { ⌜ TopsAsked h (now tops) (sizes buckets bins) ⌝ }
     requires { ⌜ now dues ≡ replicate maxBlocks 0 ⌝ }
-    ensures { λ _. ⌜ DuesAfter (tableGiven h tops ends blocks adjustments) (sizes buckets bins) (now (dues .exit)) ⌝ }
+    ensures { λ _. ⌜ ((ends blocks adjustments : List ℕ)
+        → DuesAfter (lent h (now (tops .entry)) ends blocks adjustments) (sizes buckets bins) (now (dues .exit))) ⌝ }
 {
-    let old = bin_count(h, tops, ends, blocks, adjustments);
+    let old = bin_count(h, tops);
     block_dues(tops, h.block_count as usize, buckets, bins, dues);
     if old < bins {
         dues[h.block_count as usize] = buckets - due_below(buckets / bins, buckets % bins, old);

@@ -13,7 +13,10 @@ use Rattle.model.specs.Search.{placeAt}
 use Rattle.model.specs.Sound.{Sound}
 use Rattle.model.specs.Initial.{initial}
 use Rattle.model.specs.Saved.{saved, savedLength, loadedHeader, loadedArrays}
-use Rattle.model.specs.Calls.{answer, noHeader, tableTests, sizeTests, tableReply, arraysAfter, initialRefusal, initialReply, initialArrays, saveTests, saveRefusal, saveReply, saveBytes, loadTests, loadRefusal, loadAnswer, loadReply, loadArrays, placeAnswer, placeTests, placeReply, findAnswer, findTests, findReply, binSizeAnswer, binSizeTests, binSizeReply}
+use Rattle.model.specs.Calls.{answer, noHeader, tableTests, sizeTests, tableReply, arraysAfter, initialRefusal, initialReply}
+use Rattle.model.specs.Calls.{initialArrays, saveTests, saveRefusal, saveReply, saveBytes, loadTests, loadRefusal, loadAnswer}
+use Rattle.model.specs.Calls.{loadReply, loadArrays, placeAnswer, placeTests, placeReply, findAnswer, findTests, findReply}
+use Rattle.model.specs.Calls.{binSizeAnswer, binSizeTests, binSizeReply}
 use Rattle.model.specs.declared.table.Header.{Header}
 use Rattle.model.proofs.Refusals.{first-here, first-skip, first-found, first-after, accepted, refused}
 use Rattle.file.specs.Loading.{loadedOver}

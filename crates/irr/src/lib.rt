@@ -205,7 +205,7 @@ pub fn bin_size(
             buckets: 0,
         };
     }
-    lookup::sized(header, tops, ends, blocks, adjustments, bin)
+    lookup::sized(header, tops, bin)
 }
 
 // The intervals to set aside for a number of expansions.

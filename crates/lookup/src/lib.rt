@@ -4,7 +4,7 @@ ghost use mathlib.Core.Logic.{_⊎_};
 ghost use mathlib.Core.List.{List};
 ghost use mathlib.Core.Path.{_≡_};
 ghost use lib.ListN.{length, getD, take};
-ghost use Rattle.model.specs.Lent.{lent, LentSound, tableGiven, tableNow};
+ghost use Rattle.model.specs.Lent.{lent, LentSound, TopsSound, tableGiven, tableNow};
 ghost use Rattle.model.specs.Table.{arrays, bins as binsOf, firstBin};
 ghost use Rattle.model.specs.Place.{binOf, positionOf};
 ghost use Rattle.model.specs.Search.{located, placeAt, blockOfBin, holder, foundAt};
@@ -120,22 +120,13 @@ pub fn placed(
 }
 
 // The number of buckets in a bin, or refusal 7. A bin of a sound table has its due size.
-pub fn sized(
-    h: Header,
-    tops: &[u32],
-    ends: &[u32],
-    blocks: &[u32],
-    adjustments: &[u32],
-    bin: u32,
-) -> BinSizeReply
-    requires { ⌜ LentSound h tops ends blocks adjustments ⌝ }
-    ensures { λ r.
-        ⌜
-        r ≡ binSizeAnswer (first (binSizeTests (tableGiven h tops ends blocks adjustments) bin))
-        (tableGiven h tops ends blocks adjustments) bin
-        ⌝ }
+pub fn sized(h: Header, tops: &[u32], bin: u32) -> BinSizeReply
+    requires { ⌜ TopsSound h (now tops) ⌝ }
+    ensures { λ r. ⌜ ((ends blocks adjustments : List ℕ) → Sound h (arrays (now (tops .entry)) ends blocks adjustments)
+        → r ≡ binSizeAnswer (first (binSizeTests (lent h (now (tops .entry)) ends blocks adjustments) bin))
+        (lent h (now (tops .entry)) ends blocks adjustments) bin) ⌝ }
 {
-    let bins = bin_count(h, tops, ends, blocks, adjustments);
+    let bins = bin_count(h, tops);
     if bins <= bin {
         return BinSizeReply {
             refusal: 7,
@@ -251,7 +242,7 @@ pub fn found(
         (tableGiven h tops ends blocks adjustments) bin position
         ⌝ }
 {
-    if bin_count(h, tops, ends, blocks, adjustments) <= bin {
+    if bin_count(h, tops) <= bin {
         return FindReply {
             refusal: 7,
             bucket: 0,

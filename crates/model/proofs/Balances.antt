@@ -3,7 +3,8 @@
 use Prim.Native.Nat.{ℕ, zero, suc, _+_, _-_, _*_, _/_, _%_, _≤_, _<_}
 use mathlib.Core.Path.{_≡_, sym, _∙_, ap}
 use mathlib.Core.Logic.{⊎-elim}
-use native.Mathlib.Nat.{add-mul, mul-suc, zero-div, zero-mod, div-add-mod, mod-lt, div-self, mod-self, div-eq-of-lt, mod-eq-of-lt, mul-add-div, mul-add-mod-self-left}
+use native.Mathlib.Nat.{add-mul, mul-suc, zero-div, zero-mod, div-add-mod, mod-lt, div-self, mod-self, div-eq-of-lt, mod-eq-of-lt}
+use native.Mathlib.Nat.{mul-add-div, mul-add-mod-self-left}
 use native.Mathlib.Omega.{arith}
 use lib.Dec.{ltb, eqb}
 use Rattle.model.specs.Basics.{bit, sum, count}

@@ -28,6 +28,7 @@ use Rattle.model.specs.Place.{blockOf, held, size}
 use Rattle.model.specs.Due.{dueOfBlock}
 use Rattle.model.specs.Refusal.{adjustmentOf}
 use Rattle.model.specs.Sound.{Sound}
+use Rattle.model.specs.Lent.{TopsSound}
 use Rattle.model.specs.declared.table.Header.{Header}
 use Rattle.model.proofs.Intervals.{Rising, block-at, held-others}
 use Rattle.model.proofs.Listed.{Told, Tells, tells-same}
@@ -93,6 +94,9 @@ unfolding held size
 held-size t j m = refl
 
 module _ (h : Header) (a : Arrays) (s : Sound h a) where
+  abbrev pub tops-sound : TopsSound h (a .tops)
+  tops-sound = record { ends = a .ends; blocks = a .blocks; adjustments = a .adjustments; sound = s }
+
   -- the tops of the table are the first G
   pub tops-length : length (table h a .tops) ≡ h .«block_count»
   unfolding table

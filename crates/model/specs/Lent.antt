@@ -39,3 +39,10 @@ tableGiven h tops ends blocks adjustments = table h (given tops ends blocks adju
 -- it passes rules 11 to 16
 abbrev pub LentSound : Header → Lent → Lent → Lent → Lent → Type 0
 LentSound h tops ends blocks adjustments = Sound h (arraysNow tops ends blocks adjustments)
+
+-- tops of a table that does, for a function that reads no other array of it
+pub record TopsSound (h : Header) (tops : List ℕ) : Type 0 where
+  pub ends : List ℕ
+  pub blocks : List ℕ
+  pub adjustments : List ℕ
+  pub sound : Sound h (arrays tops ends blocks adjustments)

@@ -1,16 +1,18 @@
 // The move list: the rows of the buckets that a growth moves.
 ghost use Prim.Native.Nat.{ℕ, _+_, _-_, _*_, _^_, _<_, _≤_};
 ghost use mathlib.Core.Path.{_≡_};
-ghost use mathlib.Core.List.{[], _∷_};
+ghost use mathlib.Core.List.{List, [], _∷_};
 ghost use lib.ListN.{length, getD};
 ghost use lib.Seq.{sets};
-ghost use Rattle.model.specs.Lent.{LentSound, tableGiven, tableNow};
+ghost use Rattle.model.specs.Lent.{LentSound, lent, tableGiven, tableNow};
 ghost use Rattle.model.specs.Basics.{from, joined, before as entryBefore};
-ghost use Rattle.model.specs.Table.{interval, over, sizes};
+ghost use Rattle.model.specs.Table.{arrays, interval, over, sizes};
 ghost use Rattle.model.specs.Refusal.{first as firstOf};
+ghost use Rattle.model.specs.Sound.{Sound};
 ghost use Rattle.model.specs.Expansion.{parts};
 ghost use Rattle.model.specs.Relocations.{page};
 ghost use Rattle.model.specs.Calls.{growthTests};
+ghost use Rattle.expansion_plan.specs.Shares.{TopsAsked};
 ghost use Rattle.relocations.specs.Spans.{placing, placedRow, withRows, partRows, paged, movesOf, Places, Slotted, Steps, Part, ActionMoves, Moves};
 use expansion_plan::dues_after;
 use expansion_plan::plan_at;
@@ -232,7 +234,7 @@ fn write_moved(
         (joined (page first (length (now (rows .entry))) (movesOf (tableGiven h tops ends blocks adjustments) (sizes buckets bins))))
         (now (rows .entry))) ⌝ }
 {
-    let old_bins = bin_count(h, tops, ends, blocks, adjustments);
+    let old_bins = bin_count(h, tops);
     let room = rows.len() / 5;
     let mut i: usize = 0;
     let mut start: u32 = 0;
@@ -262,20 +264,12 @@ fn write_moved(
 }
 
 // How many rows there are: max(0, B - T).
-pub fn relocation_count(
-    h: Header,
-    tops: &[u32],
-    ends: &[u32],
-    blocks: &[u32],
-    adjustments: &[u32],
-    buckets: u32,
-    bins: u32,
-) -> u32
-    requires { ⌜ LentSound h tops ends blocks adjustments ⌝ }
-    requires { ⌜ firstOf (growthTests (tableNow h tops ends blocks adjustments) (sizes buckets bins)) ≡ 0 ⌝ }
-    ensures { λ r. ⌜ r ≡ length (movesOf (tableGiven h tops ends blocks adjustments) (sizes buckets bins)) ⌝ }
+pub fn relocation_count(h: Header, tops: &[u32], buckets: u32, bins: u32) -> u32
+    requires { ⌜ TopsAsked h (now tops) (sizes buckets bins) ⌝ }
+    ensures { λ r. ⌜ ((ends blocks adjustments : List ℕ) → Sound h (arrays (now (tops .entry)) ends blocks adjustments)
+        → r ≡ length (movesOf (lent h (now (tops .entry)) ends blocks adjustments) (sizes buckets bins))) ⌝ }
 {
-    let old_bins = bin_count(h, tops, ends, blocks, adjustments);
+    let old_bins = bin_count(h, tops);
     excess(
         h.buckets,
         due_below(buckets / bins, buckets % bins, old_bins),
@@ -313,7 +307,7 @@ pub fn write_relocations(
         return 0;
     }
     let mut dues = [0u32; BLOCKS];
-    dues_after(h, tops, ends, blocks, adjustments, buckets, bins, &mut dues);
+    dues_after(h, tops, buckets, bins, &mut dues);
     write_moved(h, tops, ends, blocks, adjustments, bins, &dues, first, rows);
     let room = rows.len() / 5;
     if left as usize <= room {

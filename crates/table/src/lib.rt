@@ -2,10 +2,11 @@
 // an array.
 use model::limits::INTERVALS;
 use model::table::Header;
-ghost use Prim.Native.Nat.{_+_, _*_, _^_, min, _≤_, _<_};
+ghost use Prim.Native.Nat.{ℕ, _+_, _*_, _^_, min, _≤_, _<_};
+ghost use mathlib.Core.List.{List};
 ghost use mathlib.Core.Path.{_≡_};
 ghost use lib.ListN.{length, take};
-ghost use Rattle.model.specs.Lent.{LentSound, tableGiven};
+ghost use Rattle.model.specs.Lent.{TopsSound, lent};
 ghost use Rattle.model.specs.Basics.{before as entryBefore};
 ghost use Rattle.model.specs.Limits.{maxIntervals};
 ghost use Rattle.model.specs.Table.{bins as binsOf, over};
@@ -19,9 +20,9 @@ pub fn before(xs: &[u32], i: usize) -> u32
 }
 
 // n: the last top.
-pub fn bin_count(h: Header, tops: &[u32], ends: &[u32], blocks: &[u32], adjustments: &[u32]) -> u32
-    requires { ⌜ LentSound h tops ends blocks adjustments ⌝ }
-    ensures { λ r. ⌜ r ≡ binsOf (tableGiven h tops ends blocks adjustments) ⌝ }
+pub fn bin_count(h: Header, tops: &[u32]) -> u32
+    requires { ⌜ TopsSound h (now tops) ⌝ }
+    ensures { λ r. ⌜ ((ends blocks adjustments : List ℕ) → r ≡ binsOf (lent h (now (tops .entry)) ends blocks adjustments)) ⌝ }
 {
     before(tops, h.block_count as usize)
 }

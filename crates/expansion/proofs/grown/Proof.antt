@@ -1,10 +1,26 @@
 -- `expansion::grown` meets its contract: rules 1 to 5, then what it asks of an accepted growth. Assumes nothing.
-use mathlib.Core.Path.{refl, sym, _∙_}
-use Rattle.model.proofs.Wells.{tops-length}
+use mathlib.Core.Path.{_≡_, refl, sym, _∙_}
+use Rattle.model.specs.Lent.{lent}
+use Rattle.model.specs.Table.{sizes}
+use Rattle.model.specs.Refusal.{first}
+use Rattle.model.specs.Calls.{growthTests}
+use Rattle.model.proofs.Wells.{tops-sound, tops-length}
 use Rattle.expansion.proofs.Grows.{grow-same, grow-refused}
 use borrow.Author.Needs.{needs}
 use Rattle.expansion.proofs.grown.Statement.{statement}
 use Rattle.expansion.proofs.grown.Tie as tie
+
+-- past rules 1 to 5: the function's entry, and that they accept the growth
+abbrev start : tie.Else1 → tie.Start
+start c = c .before .before .before .before .before .before .before .before .before .before
+
+asked : (c : tie.Else1) → let s = start c in
+    first
+    (growthTests
+    (lent (s .args .header) (s .args .tops .now) (s .args .ends .now) (s .args .blocks .now) (s .args .adjustments .now))
+    (sizes (s .args .buckets) (s .args .bins)))
+    ≡ 0
+asked c = sym (c .before .growth-refusal .ensures _ _ _) ∙ c .if1 .left
 
 growth-refusal-requires : tie.Need-growth-refusal-requires
 growth-refusal-requires c κs = search needs
@@ -15,16 +31,15 @@ refused-table-requires c κs = search needs
 returns : tie.Need-returns
 returns c =
     grow-same _ _ _ _ _ _ (c .refused-table .ensures)
-    (grow-refused _ _ _ _ (c .before .before .growth-refusal .ensures) (c .before .if1 .taken))
+    (grow-refused _ _ _ _ (c .before .before .growth-refusal .ensures _ _ _) (c .before .if1 .taken))
 
 dues-before-requires : tie.Need-dues-before-requires
 dues-before-requires c κs = search needs
 
 dues-after-requires : tie.Need-dues-after-requires
 dues-after-requires c κs =
-    let asked = c .before .before .before in
-    let start = asked .before .before .before .before .before .before .before .before .before .before in
-    (start .pre .0, (sym (asked .before .growth-refusal .ensures) ∙ asked .if1 .left, refl))
+    let accepted = c .before .before .before in
+    (record { whole = tops-sound _ _ (start accepted .pre .0); asked = asked accepted }, refl)
 
 some-fall-requires : tie.Need-some-fall-requires
 some-fall-requires c κs = search needs
@@ -38,17 +53,17 @@ accepted-requires c κs =
     let falling = counting .before in
     let shared = falling .before .before .before in
     let held = shared .before .before in
-    let asked = held .before .before in
-    let (sound, room) = asked .before .before .before .before .before .before .before .before .before .before .pre in
-    let before = held .dues-before .ensures in
-    let after = shared .dues-after .ensures in (
+    let accepted = held .before .before in
+    let (sound, room) = start accepted .pre in
+    let before = held .dues-before .ensures _ _ _ sound in
+    let after = shared .dues-after .ensures _ _ _ in (
       record {
         sound = sound;
-        asked = sym (asked .before .growth-refusal .ensures) ∙ asked .if1 .left;
+        asked = asked accepted;
         before = before;
         after = after;
         falling = falling .some-fall .ensures _ _ (tops-length _ _ sound) before after;
-        counted = counting .blocks-after .ensures _ refl;
+        counted = counting .blocks-after .ensures _ _ _ _ refl;
       },
       room,
     )

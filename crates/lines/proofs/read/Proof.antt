@@ -3,7 +3,8 @@ use mathlib.Core.Path.{sym, _∙_}
 use native.Mathlib.Omega.{arith}
 use borrow.Author.Needs.{needs}
 use Rattle.model.specs.Console.{text}
-use Rattle.lines.proofs.Reading.{First, Second, Third, first, second, third, read-long, read-moves, read-alone, read-no-second, read-where, read-one, read-no-third, read-two, read-more}
+use Rattle.lines.proofs.Reading.{First, Second, Third, first, second, third, read-long, read-moves, read-alone}
+use Rattle.lines.proofs.Reading.{read-no-second, read-where, read-one, read-no-third, read-two, read-more}
 use Rattle.lines.proofs.read.Statement.{statement}
 use Rattle.lines.proofs.read.Tie as tie
 

@@ -10,13 +10,16 @@ bin-count-requires : tie.Need-bin-count-requires
 bin-count-requires c κs = search needs
 
 returns : tie.Need-returns
-returns c = bin-refused _ _ _ _ (c .before .bin-count .ensures) (c .if1 .taken)
+returns c = bin-refused _ _ _ _ (c .before .bin-count .ensures _ _ _) (c .if1 .taken)
 
 bucket-at-requires : tie.Need-bucket-at-requires
-bucket-at-requires c κs = (c .before .before .before .before .before .before .pre, omega (arith, c .before .bin-count .ensures, c .if1 .left))
+bucket-at-requires c κs =
+    let start = c .before .before .before .before .before .before in
+    let n = c .before .bin-count .ensures (start .args .ends .now) (start .args .blocks .now) (start .args .adjustments .now) in
+    (start .pre, omega (arith, n, c .if1 .left))
 
 returns-2 : tie.Need-returns-2
-returns-2 c = c .bucket-at .ensures ∙ bin-accepted _ _ _ _ (c .before .before .bin-count .ensures) (c .before .if1 .left)
+returns-2 c = c .bucket-at .ensures ∙ bin-accepted _ _ _ _ (c .before .before .bin-count .ensures _ _ _) (c .before .if1 .left)
 
 pub found-spec : {M : Type 1} → statement M
 found-spec = tie.close (tie.spec bin-count-requires returns bucket-at-requires returns-2)

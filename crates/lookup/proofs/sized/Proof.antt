@@ -1,4 +1,5 @@
 -- `lookup::sized` meets its contract: a bin of a sound table has its due size. Assumes nothing.
+use Prim.Native.Nat.{_≤_}
 use native.Mathlib.Nat.{div-le-self}
 use native.Mathlib.Omega.{arith}
 use borrow.Author.Needs.{needs}
@@ -9,41 +10,34 @@ use Rattle.lookup.proofs.sized.Tie as tie
 bin-count-requires : tie.Need-bin-count-requires
 bin-count-requires c κs = search needs
 
+-- there is a bin
+some : (c : tie.After-bin-count) → 1 ≤ c .bin-count .result
+some c = bins-some (c .before .before .args .h) _ (c .before .before .pre .sound) _ (c .bin-count .ensures _ _ _)
+
 returns : tie.Need-returns
-returns c = size-past (c .before .before .before .before .before .before .args .h) _ _ _ (c .before .bin-count .ensures) (omega arith)
+returns c ends blocks adjustments sound =
+    size-past _ _ _ _ (c .before .bin-count .ensures ends blocks adjustments) (c .if1 .taken)
 
 div-share : tie.Need-div-share
-div-share c =
-    let start = c .before .before .before .before .before .before .before in
-    omega (arith, bins-some (start .args .h) _ (start .pre) _ (c .before .before .bin-count .ensures))
+div-share c = some (c .before .before)
 
 rem-if2 : tie.Need-rem-if2
-rem-if2 c =
-    let start = c .before .before .before .before .before .before .before .before in
-    omega (arith, bins-some (start .args .h) _ (start .pre) _ (c .before .before .before .bin-count .ensures))
+rem-if2 c = some (c .before .before .before)
 
-add-t11 : tie.Need-add-t11
-add-t11 c =
-    omega (
-      arith,
-      c .before .before .before .before .before .before .before .before .before .pre .bucketLimit,
-      div-le-self
-          (c .before .before .before .before .before .before .before .before .before .args .h .buckets)
-          (c .before .before .before .before .bin-count .result),
-    )
+add-t8 : tie.Need-add-t8
+add-t8 c =
+    let n = c .before .before .before .before in
+    let start = n .before .before in
+    omega (arith, start .pre .sound .bucketLimit, div-le-self (start .args .h .buckets) (n .bin-count .result))
 
 returns-2 : tie.Need-returns-2
-returns-2 c =
-    size-more (c .before .before .before .before .before .before .before .before .before .args .h) _
-    (c .before .before .before .before .before .before .before .before .before .pre) _ _ (c .before .before .before .before .bin-count .ensures)
-    (omega arith) (c .if2 .taken)
+returns-2 c ends blocks adjustments sound =
+    size-more _ _ sound _ _ (c .before .before .before .before .bin-count .ensures _ _ _) (c .before .before .before .if1 .left) (c .if2 .taken)
 
 returns-3 : tie.Need-returns-3
-returns-3 c =
-    size-less (c .before .before .before .before .before .before .before .before .before .args .h) _
-    (c .before .before .before .before .before .before .before .before .before .pre) _ _ (c .before .before .before .before .bin-count .ensures)
-    (omega arith) (c .if2 .left)
+returns-3 c ends blocks adjustments sound =
+    size-less _ _ sound _ _ (c .before .before .before .before .bin-count .ensures _ _ _) (c .before .before .before .if1 .left) (c .if2 .left)
 
 pub sized-spec : {M : Type 1} → statement M
 sized-spec =
-    tie.close (tie.spec bin-count-requires returns div-share rem-if2 add-t11 returns-2 returns-3)
+    tie.close (tie.spec bin-count-requires returns div-share rem-if2 add-t8 returns-2 returns-3)

@@ -5,6 +5,7 @@ use native.Mathlib.Omega.{arith}
 use borrow.Author.Count.{falls}
 use Rattle.model.specs.Table.{Shape, Arrays, arrays, table, sizes}
 use Rattle.model.specs.Lent.{lent}
+use Rattle.model.proofs.Wells.{tops-sound}
 use Rattle.model.proofs.Growths.{accepted}
 use Rattle.expansion_plan.proofs.Turns.{interval-at, planned}
 use Rattle.relocations.specs.Spans.{Moves}
@@ -37,7 +38,7 @@ abbrev asked : tie.Start Inv-loop μ-loop → Shape
 asked c = sizes (c .pre .1 .0) (c .args .bins)
 
 bin-count-requires : tie.Need-bin-count-requires Inv-loop μ-loop
-bin-count-requires c κs = c .before .before .before .before .before .pre .0
+bin-count-requires c κs = tops-sound _ _ (c .before .before .before .before .before .pre .0)
 
 loop-holds : tie.Need-loop-holds Inv-loop μ-loop
 loop-holds c b m =
@@ -137,7 +138,8 @@ sub-write-action : tie.Need-sub-write-action Inv-loop μ-loop
 sub-write-action c =
     let start = c .before .before .before .before .before .before .before .before .before .before .before .before .before .before .before .before in
     let more = accepted (table (start .args .h) (lists start)) (asked start) (start .pre .1 .1 .asked) .moreBins in
-    omega (arith, c .before .before .before .before .before .before .before .before .before .before .bin-count .ensures)
+    let n = c .before .before .before .before .before .before .before .before .before .before .bin-count in
+    omega (arith, n .ensures (start .args .ends .now) (start .args .blocks .now) (start .args .adjustments .now))
 
 write-action-requires : tie.Need-write-action-requires Inv-loop μ-loop
 write-action-requires c κs =
@@ -160,7 +162,7 @@ write-action-requires c κs =
           (planned _ _ (start .pre .0) _ (start .args .dues .now) (start .pre .1 .1 .after) _ _ _ l _
           (c .before .before .before .before .before .plan-at .ensures))
           (c .before .placing-of .ensures)
-          (c .before .before .before .before .before .before .before .before .before .before .before .bin-count .ensures),
+          (c .before .before .before .before .before .before .before .before .before .before .before .bin-count .ensures _ _ _),
     )
 
 add-i : tie.Need-add-i Inv-loop μ-loop
@@ -192,7 +194,7 @@ loop-again c b m =
     (planned _ _ (start .pre .0) _ (start .args .dues .now) (m .after) _ _ _ l _
     (c .before .before .before .before .before .before .before .before .plan-at .ensures))
     (c .before .before .before .before .placing-of .ensures)
-    (c .before .before .before .before .before .before .before .before .before .before .before .before .before .before .bin-count .ensures)
+    (c .before .before .before .before .before .before .before .before .before .before .before .before .before .before .bin-count .ensures _ _ _)
     _
     (c .before .before .write-action .ensures)
 

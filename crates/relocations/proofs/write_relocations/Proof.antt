@@ -1,9 +1,10 @@
 -- `relocations::write_relocations` meets its contract: the page, of the length that it has. Assumes nothing.
 use Prim.Native.Nat.{_+_, _-_, _/_}
-use mathlib.Core.Path.{_≡_, _∙_, ap}
+use mathlib.Core.Path.{_≡_, refl, _∙_, ap}
 use native.Mathlib.Omega.{arith}
 use Rattle.model.specs.Table.{sizes}
 use Rattle.model.specs.Lent.{lent}
+use Rattle.model.proofs.Wells.{tops-sound}
 use Rattle.model.proofs.Rows.{rows-falls}
 use Rattle.model.proofs.Pages.{page-past, page-left, page-room}
 use Rattle.relocations.specs.Spans.{Moves}
@@ -17,7 +18,9 @@ returns c =
     page-past (start .args .first) _ _ (omega (arith, c .if1 .taken, start .pre .1 .1))
 
 dues-after-requires : tie.Need-dues-after-requires
-dues-after-requires c κs = search needs
+dues-after-requires c κs =
+    let start = c .before .before .before .before .before .before .before in
+    (record { whole = tops-sound _ _ (start .pre .0); asked = start .pre .1 .0 }, refl)
 
 -- there is a row from order number `first` on, so some old block is due less
 moves
@@ -26,13 +29,13 @@ moves
     Moves
     (lent (s .args .h) (s .args .tops .now) (s .args .ends .now) (s .args .blocks .now) (s .args .adjustments .now))
     (sizes (s .args .buckets) (s .args .bins))
-    (c .before .before .dues-after .last .1 .1 .1 .1 .1 .1 .1 .0)
+    (c .before .before .dues-after .last .1 .1 .1 .1 .0)
 moves c =
     let start = c .before .before .before .before .before .before .before .before .before .before in
     let (sound, (asked, all)) = start .pre in
     let other = c .before .before .before .before .if1 .left in
     let falls = rows-falls (start .args .h) _ _ sound asked (start .args .first) (omega arith) in
-    record { asked = asked; falls = falls; after = c .before .before .dues-after .ensures }
+    record { asked = asked; falls = falls; after = c .before .before .dues-after .ensures _ _ _ }
 
 write-moved-requires : tie.Need-write-moved-requires
 write-moved-requires c κs =

@@ -1,5 +1,6 @@
 -- `table::bin_count` meets its contract: the last top is n. Assumes nothing.
 use mathlib.Core.Path.{sym, _∙_}
+use Rattle.model.specs.Table.{arrays}
 use Rattle.model.proofs.Tables.{bins-table}
 use borrow.Author.Needs.{needs}
 use Rattle.table.proofs.bin_count.Statement.{statement}
@@ -9,12 +10,12 @@ cast-before : tie.Need-cast-before
 cast-before c = search needs
 
 before-requires : tie.Need-before-requires
-before-requires c κs = search needs
+before-requires c κs = c .before .before .pre .sound .topsLong
 
 returns : tie.Need-returns
-returns c =
-    c .before2 .ensures ∙ sym (bins-table (c .before .before .before .before .before .before .args .h) _
-    (c .before .before .before .before .before .before .pre .topsLong))
+returns c ends blocks adjustments =
+    let start = c .before .before .before in
+    c .before2 .ensures ∙ sym (bins-table (start .args .h) (arrays _ ends blocks adjustments) (start .pre .sound .topsLong))
 
 pub bin-count-spec : {M : Type 1} → statement M
 bin-count-spec = tie.close (tie.spec cast-before before-requires returns)
