@@ -16,7 +16,7 @@ some c = bins-some (c .before .before .args .h) _ (c .before .before .pre .sound
 
 returns : tie.Need-returns
 returns c ends blocks adjustments sound =
-    size-past _ _ _ _ (c .before .bin-count .ensures ends blocks adjustments) (c .if1 .taken)
+    size-past _ _ _ _ (c .before .bin-count .ensures ends blocks adjustments) (omega arith)
 
 div-share : tie.Need-div-share
 div-share c = some (c .before .before)
@@ -32,11 +32,11 @@ add-t8 c =
 
 returns-2 : tie.Need-returns-2
 returns-2 c ends blocks adjustments sound =
-    size-more _ _ sound _ _ (c .before .before .before .before .bin-count .ensures _ _ _) (c .before .before .before .if1 .left) (c .if2 .taken)
+    size-more _ _ sound _ _ (c .before .before .before .before .bin-count .ensures _ _ _) (omega arith) (c .if2 .taken)
 
 returns-3 : tie.Need-returns-3
 returns-3 c ends blocks adjustments sound =
-    size-less _ _ sound _ _ (c .before .before .before .before .bin-count .ensures _ _ _) (c .before .before .before .if1 .left) (c .if2 .left)
+    size-less _ _ sound _ _ (c .before .before .before .before .bin-count .ensures _ _ _) (omega arith) (c .if2 .left)
 
 pub sized-spec : {M : Type 1} → statement M
 sized-spec =
