@@ -94,8 +94,8 @@ unfolding held size
 held-size t j m = refl
 
 module _ (h : Header) (a : Arrays) (s : Sound h a) where
-  abbrev pub tops-sound : TopsSound h (a .tops)
-  tops-sound = record { ends = a .ends; blocks = a .blocks; adjustments = a .adjustments; sound = s }
+  abbrev pub lent-tops : TopsSound h (a .tops)
+  lent-tops = record { ends = a .ends; blocks = a .blocks; adjustments = a .adjustments; sound = s }
 
   -- the tops of the table are the first G
   pub tops-length : length (table h a .tops) ≡ h .«block_count»

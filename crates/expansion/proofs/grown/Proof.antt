@@ -4,7 +4,7 @@ use Rattle.model.specs.Lent.{lent}
 use Rattle.model.specs.Table.{sizes}
 use Rattle.model.specs.Refusal.{first}
 use Rattle.model.specs.Calls.{growthTests}
-use Rattle.model.proofs.Wells.{tops-sound, tops-length}
+use Rattle.model.proofs.Wells.{lent-tops, tops-length}
 use Rattle.expansion.proofs.Grows.{grow-same, grow-refused}
 use borrow.Author.Needs.{needs}
 use Rattle.expansion.proofs.grown.Statement.{statement}
@@ -39,7 +39,7 @@ dues-before-requires c κs = search needs
 dues-after-requires : tie.Need-dues-after-requires
 dues-after-requires c κs =
     let accepted = c .before .before .before in
-    (record { whole = tops-sound _ _ (start accepted .pre .0); asked = asked accepted }, refl)
+    (record { whole = lent-tops _ _ (start accepted .pre .0); asked = asked accepted }, refl)
 
 some-fall-requires : tie.Need-some-fall-requires
 some-fall-requires c κs = search needs

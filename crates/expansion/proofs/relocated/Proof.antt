@@ -6,7 +6,7 @@ use Rattle.model.specs.Lent.{lent}
 use Rattle.model.specs.Table.{Shape, Table, sizes}
 use Rattle.model.specs.Refusal.{first}
 use Rattle.model.specs.Calls.{growthTests}
-use Rattle.model.proofs.Wells.{tops-sound}
+use Rattle.model.proofs.Wells.{lent-tops}
 use Rattle.relocations.specs.Spans.{movesOf}
 use Rattle.expansion.proofs.Moves.{moves-same, moves-refused, moves-past, moves-accepted}
 use borrow.Author.Needs.{needs}
@@ -44,7 +44,7 @@ returns c =
     (moves-refused _ _ _ _ _ (c .before .before .growth-refusal .ensures _ _ _) (c .before .if1 .taken))
 
 relocation-count-requires : tie.Need-relocation-count-requires
-relocation-count-requires c κs = record { whole = tops-sound _ _ (start c .pre); asked = asked c }
+relocation-count-requires c κs = record { whole = lent-tops _ _ (start c .pre); asked = asked c }
 
 refused-list-requires-2 : tie.Need-refused-list-requires-2
 refused-list-requires-2 c κs = search needs

@@ -29,7 +29,8 @@ sized : (c : tie.Else1) → first (sizeTests (z (entry c))) ≡ 0
 sized c = sym (c .before .size-refusal .ensures) ∙ c .if1 .left
 
 -- the number of blocks
-count : (c : tie.Else1) → length (take (entry c .args .h .«block_count») (entry c .args .tops .now)) ≡ entry c .args .h .«block_count»
+count
+    : (c : tie.Else1) → length (take (entry c .args .h .«block_count») (entry c .args .tops .now)) ≡ entry c .args .h .«block_count»
 count c = length-take-le _ _ (entry c .pre .sound .topsLong)
 
 size-refusal-requires : tie.Need-size-refusal-requires
@@ -42,7 +43,9 @@ returns c ends blocks adjustments =
 
 returns-2 : tie.Need-returns-2
 unfolding table
-returns-2 c ends blocks adjustments = sym (asked-fewer (t (entry (c .before .before)) ends blocks adjustments) (z (entry (c .before .before))) (sized (c .before .before)) (c .if2 .taken))
+returns-2 c ends blocks adjustments =
+    let p = c .before .before in
+    sym (asked-fewer (t (entry p) ends blocks adjustments) (z (entry p)) (sized p) (c .if2 .taken))
 
 bin-count-requires : tie.Need-bin-count-requires
 bin-count-requires c κs = search needs
@@ -59,36 +62,40 @@ returns-4 : tie.Need-returns-4
 unfolding table
 returns-4 c ends blocks adjustments =
     let p = c .before .before .before .before .before .before .before in
+    let n = c .before .before .before .before .bin-count .ensures ends blocks adjustments in
     sym
     (asked-full (t (entry p) ends blocks adjustments) (z (entry p)) (sized p) (c .before .before .before .before .before .if2 .left)
-    (omega (arith, c .before .before .before .before .bin-count .ensures ends blocks adjustments, c .before .before .if4 .taken))
+    (omega (arith, n, c .before .before .if4 .taken))
     (count p ∙ c .if5 .taken))
 
 returns-5 : tie.Need-returns-5
 unfolding table
 returns-5 c ends blocks adjustments =
     let p = c .before .before .before .before .before .before .before in
+    let n = c .before .before .before .before .bin-count .ensures ends blocks adjustments in
     sym
     (asked-wider (t (entry p) ends blocks adjustments) (z (entry p)) (sized p) (c .before .before .before .before .before .if2 .left)
-    (omega (arith, c .before .before .before .before .bin-count .ensures ends blocks adjustments, c .before .before .if4 .taken))
+    (omega (arith, n, c .before .before .if4 .taken))
     (λ e. c .if5 .left (sym (count p) ∙ e)))
 
 returns-6 : tie.Need-returns-6
 unfolding table
 returns-6 c ends blocks adjustments =
     let p = c .before .before .before .before .before .before .before in
+    let n = c .before .before .before .before .bin-count .ensures ends blocks adjustments in
     sym
     (asked-same (t (entry p) ends blocks adjustments) (z (entry p)) (sized p) (c .before .before .before .before .before .if2 .left)
-    (omega (arith, c .before .before .before .before .bin-count .ensures ends blocks adjustments, c .before .before .before .if3 .left, c .before .before .if4 .left))
+    (omega (arith, n, c .before .before .before .if3 .left, c .before .before .if4 .left))
     (c .if6 .taken))
 
 returns-7 : tie.Need-returns-7
 unfolding table
 returns-7 c ends blocks adjustments =
     let p = c .before .before .before .before .before .before .before in
+    let n = c .before .before .before .before .bin-count .ensures ends blocks adjustments in
     sym
     (asked-more (t (entry p) ends blocks adjustments) (z (entry p)) (sized p) (c .before .before .before .before .before .if2 .left)
-    (omega (arith, c .before .before .before .before .bin-count .ensures ends blocks adjustments, c .before .before .before .if3 .left, c .before .before .if4 .left))
+    (omega (arith, n, c .before .before .before .if3 .left, c .before .before .if4 .left))
     (c .if6 .left))
 
 pub growth-refusal-spec : {M : Type 1} → statement M

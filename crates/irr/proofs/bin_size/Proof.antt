@@ -1,6 +1,6 @@
 -- `irr::bin_size` meets its contract: the check, then what reads a sound table. Assumes nothing.
 use mathlib.Core.Path.{_∙_}
-use Rattle.model.proofs.Wells.{tops-sound}
+use Rattle.model.proofs.Wells.{lent-tops}
 use Rattle.irr.proofs.Answers.{checked, size-refused, size-accepted}
 use borrow.Author.Needs.{needs}
 use Rattle.irr.proofs.bin_size.Statement.{statement}
@@ -13,7 +13,7 @@ returns : tie.Need-returns
 returns c = size-refused _ _ _ (c .before .check .ensures) _ (c .if1 .taken)
 
 sized-requires : tie.Need-sized-requires
-sized-requires c κs = tops-sound _ _ (checked _ _ _ (c .before .check .ensures) (c .if1 .left))
+sized-requires c κs = lent-tops _ _ (checked _ _ _ (c .before .check .ensures) (c .if1 .left))
 
 returns-2 : tie.Need-returns-2
 returns-2 c =

@@ -5,7 +5,7 @@ use native.Mathlib.Omega.{arith}
 use borrow.Author.Count.{falls}
 use Rattle.model.specs.Table.{Shape, Arrays, arrays, table, sizes}
 use Rattle.model.specs.Lent.{lent}
-use Rattle.model.proofs.Wells.{tops-sound}
+use Rattle.model.proofs.Wells.{lent-tops}
 use Rattle.model.proofs.Growths.{accepted}
 use Rattle.expansion_plan.proofs.Turns.{interval-at, planned}
 use Rattle.relocations.specs.Spans.{Moves}
@@ -38,7 +38,7 @@ abbrev asked : tie.Start Inv-loop μ-loop → Shape
 asked c = sizes (c .pre .1 .0) (c .args .bins)
 
 bin-count-requires : tie.Need-bin-count-requires Inv-loop μ-loop
-bin-count-requires c κs = tops-sound _ _ (c .before .before .before .before .before .pre .0)
+bin-count-requires c κs = lent-tops _ _ (c .before .before .before .before .before .pre .0)
 
 loop-holds : tie.Need-loop-holds Inv-loop μ-loop
 loop-holds c b m =

@@ -4,7 +4,7 @@ use mathlib.Core.Path.{_≡_, refl, _∙_, ap}
 use native.Mathlib.Omega.{arith}
 use Rattle.model.specs.Table.{sizes}
 use Rattle.model.specs.Lent.{lent}
-use Rattle.model.proofs.Wells.{tops-sound}
+use Rattle.model.proofs.Wells.{lent-tops}
 use Rattle.model.proofs.Rows.{rows-falls}
 use Rattle.model.proofs.Pages.{page-past, page-left, page-room}
 use Rattle.relocations.specs.Spans.{Moves}
@@ -20,7 +20,7 @@ returns c =
 dues-after-requires : tie.Need-dues-after-requires
 dues-after-requires c κs =
     let start = c .before .before .before .before .before .before .before in
-    (record { whole = tops-sound _ _ (start .pre .0); asked = start .pre .1 .0 }, refl)
+    (record { whole = lent-tops _ _ (start .pre .0); asked = start .pre .1 .0 }, refl)
 
 -- there is a row from order number `first` on, so some old block is due less
 moves
