@@ -1,16 +1,18 @@
 -- What the tests of a file show of it and of the header h that it says, and the table that it gives. Assumes nothing.
 use Prim.Native.Nat.{ℕ, _≤_}
 use mathlib.Core.Path.{_≡_, refl, sym, _∙_, ap, ap₂, subst}
-use mathlib.Core.Bool.{true, false}
-use mathlib.Core.List.{List, [], _∷_}
+use mathlib.Core.Bool.{true, false, not}
+use mathlib.Core.List.{List, [], _∷_, _++_}
 use native.Mathlib.Decide.{ℕ-discrete}
 use native.Mathlib.Omega.{arith}
+use lib.Dec.{eqb}
 use lib.ListN.{length, take, drop}
 use lib.Seq.{take-at, take-length}
 use borrow.Author.Tests.{eqb-true, not-false}
-use Rattle.model.specs.Basics.{from}
+use Rattle.model.specs.Basics.{if_then_else_, _and_, all, before, count, sum, from}
 use Rattle.model.specs.Table.{Arrays, arrays, table, over, written}
-use Rattle.model.specs.Refusal.{first, topsWrong, endsWrong, blocksWrong, adjustmentOf, roomShort}
+use Rattle.model.specs.Place.{others}
+use Rattle.model.specs.Refusal.{first, topsWrong, endsWrong, blocksWrong, adjustmentOf, adjustmentsWrong, roomShort}
 use Rattle.model.specs.Saved.{savedLength, loadedHeader, readArrays, loadedArrays, fileWrong}
 use Rattle.model.specs.Calls.{noHeader, arraysAfter, loadAnswer, loadTests}
 use Rattle.model.specs.declared.table.Header.{Header}
@@ -20,8 +22,8 @@ use Rattle.model.proofs.Tables.{length-from, length-over}
 use Rattle.model.proofs.Rules.{blocks-inside, intervals-inside}
 use Rattle.model.proofs.Holdings.{adjustment-same, holdings-same}
 use Rattle.model.proofs.Loads.{written-whole}
-use Rattle.file.specs.Loading.{fileArrays, Counted, Opened, Decoded, Settled, loadedOver, Loaded}
-use Rattle.soundness.specs.Passed.{Counted as Rule11, layoutTests, arrayTests, Completed}
+use Rattle.file.specs.Loading.{fileArrays, Counted, Opened, Decoded, outOver, Settled, loadedOver, Loaded}
+use Rattle.soundness.specs.Passed.{Counted as Rule11, layoutTests, arrayTests, ruleTests, alone, Completed}
 
 module _ (f : List ℕ) (h : Header) (e : h ≡ loadedHeader f) where
   -- rule 11 passed
@@ -93,6 +95,11 @@ taken xs old new n e l = ap (take n) e ∙ take-at xs (drop (length xs) old) n l
 pub taken-length : (xs old new : List ℕ) (n : ℕ) → new ≡ over xs old → length xs ≡ n → n ≡ length (take n new)
 taken-length xs old new n e l = sym (ap length (taken xs old new n e l) ∙ l)
 
+-- of as many entries, all of it
+pub filled : (xs old new : List ℕ) → new ≡ over xs old → length xs ≡ length old → new ≡ xs
+filled xs old new e l =
+    e ∙ sym (whole (over xs old) (length xs) (length-over xs old (omega arith) ∙ sym l)) ∙ taken xs old (over xs old) (length xs) refl refl
+
 -- the lists keep their lengths
 pub over-long : (xs old new : List ℕ) (n : ℕ) → new ≡ over xs old → length xs ≡ n → n ≤ length old → n ≤ length new
 over-long xs old new n e l m = omega (arith, ap length e, length-over xs old (omega arith))
@@ -118,23 +125,45 @@ module _ (h : Header) (tops ends blocks : List ℕ) (d : Decoded h tops ends blo
     completed-long z l = over-long _ own own′ _ (c .adjusted z) (length-from _ _ _) l
 
     pub settled-accepted
-        : r ≡ 0 → (t e b a : List ℕ)
-        → t ≡ over (take (h .«block_count») tops) (old .tops)
-        → e ≡ over (take (h .«interval_count») ends) (old .ends)
-        → b ≡ over (take (h .«interval_count») blocks) (old .blocks)
-        → a ≡ over (take (h .«interval_count») own′) (old .adjustments)
-        → Settled h tops ends blocks old 0 (arrays t e b a)
-    settled-accepted z t e b a p q s u =
+        : r ≡ 0 → (left : Arrays) → left ≡ outOver h (arrays tops ends blocks own′) old → Settled h tops ends blocks old 0 left
+    settled-accepted z left e =
         record {
           refusal = sym z ∙ c .answer;
           refused = λ n. absurd (n refl);
-          accepted = λ _ i.
+          accepted = λ _.
+              e
+              ∙ (λ i.
               arrays
-              ((p ∙ ap (λ xs. over xs (old .tops)) (whole tops _ (d .topsLength))) i)
-              ((q ∙ ap (λ xs. over xs (old .ends)) (whole ends _ (d .endsLength))) i)
-              ((s ∙ ap (λ xs. over xs (old .blocks)) (whole blocks _ (d .blocksLength))) i)
-              ((u ∙ ap (λ xs. over xs (old .adjustments)) (taken _ own own′ _ (c .adjusted z) (length-from _ _ _))) i);
+              (over (whole tops _ (d .topsLength) i) (old .tops))
+              (over (whole ends _ (d .endsLength) i) (old .ends))
+              (over (whole blocks _ (d .blocksLength) i) (old .blocks))
+              (over (taken _ own own′ _ (c .adjusted z) (length-from _ _ _) i) (old .adjustments)));
         }
+
+-- ONE BLOCK AND ONE INTERVAL
+
+-- the first interval's adjustment is 0
+first-adjustment : (h : Header) (a : Arrays) → adjustmentOf h a 0 ≡ 0
+unfolding adjustmentOf others before count sum
+first-adjustment h a = refl
+
+-- so an adjustment of 0 completes a table of one
+pub alone-completed
+    : (b : ℕ) (tops ends blocks : List ℕ) (x r : ℕ) → x ≡ 0 → r ≡ first (ruleTests (alone b) (arrays tops ends blocks (x ∷ [])))
+    → Completed (alone b) tops ends blocks (x ∷ []) r (x ∷ [])
+unfolding ruleTests arrayTests layoutTests first if_then_else_ adjustmentsWrong all _and_ from over
+alone-completed b tops ends blocks x r z e =
+    let a = arrays tops ends blocks (x ∷ []) in
+    let right : adjustmentsWrong (alone b) a ≡ false = λ i. not (eqb (z i) (first-adjustment (alone b) a i)) in
+    record {
+      answer =
+          e
+          ∙ (λ i.
+          first
+          (layoutTests (alone b) tops ends blocks
+          ++ ((15, holdings-same (alone b) ends blocks tops (x ∷ []) [] i) ∷ (16, right i) ∷ [])));
+      adjusted = λ _. ap (λ y. y ∷ []) (z ∙ sym (first-adjustment (alone b) (arrays [] ends blocks [])));
+    }
 
 -- a file's decoded arrays settled
 pub settled-loaded
@@ -200,3 +229,9 @@ loaded-replied f h old left r z e l d = (d ∙ ap₂ loadAnswer (l .refusal) e, 
 pub opened
     : (f : List ℕ) (h : Header) (out : Arrays) → h ≡ loadedHeader f → fileWrong f ≡ false → roomShort out ≡ false → Opened f h out
 opened f h out e w r = record { says = e; passes = w; counted = counted f h e w; room = r }
+
+pub opened-alone
+    : (f : List ℕ) (h : Header) (out : Arrays) → Opened f h out → h .«block_count» ≡ 1 → h .«interval_count» ≡ 1
+    → Opened f (alone (h .buckets)) out
+opened-alone f h out o p q =
+    subst (λ g. Opened f g out) (λ i. record { buckets = h .buckets; «block_count» = p i; «interval_count» = q i }) o

@@ -3,7 +3,7 @@ use Prim.Native.Nat.{ℕ, _+_, _*_, _≤_}
 use mathlib.Core.Path.{_≡_}
 use mathlib.Core.Bool.{false}
 use mathlib.Core.List.{List, []}
-use lib.ListN.{length}
+use lib.ListN.{length, take}
 use Rattle.model.specs.Basics.{from}
 use Rattle.model.specs.Limits.{maxBlocks, maxIntervals}
 use Rattle.model.specs.Table.{Arrays, arrays, table, over}
@@ -53,6 +53,15 @@ pub record Decoded (h : Header) (tops ends blocks : List ℕ) : Type 0 where
   pub topsLength : length tops ≡ h .«block_count»
   pub endsLength : length ends ≡ h .«interval_count»
   pub blocksLength : length blocks ≡ h .«interval_count»
+
+-- the arrays `own`, as far as the table of header h goes, over the first of the arrays `old`
+abbrev pub outOver : Header → Arrays → Arrays → Arrays
+outOver h own old =
+    arrays
+    (over (take (h .«block_count») (own .tops)) (old .tops))
+    (over (take (h .«interval_count») (own .ends)) (old .ends))
+    (over (take (h .«interval_count») (own .blocks)) (old .blocks))
+    (over (take (h .«interval_count») (own .adjustments)) (old .adjustments))
 
 -- the refusal r of decoded arrays, and what they leave of the arrays `old`: with their adjustments, where r is 0
 pub record Settled (h : Header) (tops ends blocks : List ℕ) (old : Arrays) (r : ℕ) (left : Arrays) : Type 0 where

@@ -8,6 +8,7 @@ use model::reply::LoadReply;
 use model::table::Header;
 use soundness::complete;
 use soundness::header_outside;
+use soundness::judged_alone;
 use table::copy;
 ghost use mathlib.Core.Path.{_≡_};
 ghost use mathlib.Core.Bool.{false};
@@ -19,7 +20,8 @@ ghost use Rattle.model.specs.Table.{over};
 ghost use Rattle.model.specs.Refusal.{roomShort, first};
 ghost use Rattle.model.specs.Saved.{number, loadedHeader, fileWrong};
 ghost use Rattle.model.specs.Calls.{loadAnswer, loadTests};
-ghost use Rattle.file.specs.Loading.{fileArrays, Counted, Opened, Own, Decoded, Settled, loadedOver, Loaded};
+ghost use Rattle.soundness.specs.Passed.{alone};
+ghost use Rattle.file.specs.Loading.{fileArrays, Counted, Opened, Own, Decoded, outOver, Settled, loadedOver, Loaded};
 
 // 11: B, G or k outside its limits, or a file of another length.
 fn file_wrong(f: &[u8]) -> bool
@@ -64,6 +66,33 @@ fn decode(f: &[u8], h: Header, tops: &mut [u32], ends: &mut [u32], blocks: &mut 
     copy_numbers(f, 3 + block_count + interval_count, interval_count, blocks);
 }
 
+// Writes a table over the first entries of arrays with room for any table.
+fn write_out(
+    h: Header,
+    own_tops: &[u32],
+    own_ends: &[u32],
+    own_blocks: &[u32],
+    own_adjustments: &[u32],
+    tops: &mut [u32],
+    ends: &mut [u32],
+    blocks: &mut [u32],
+    adjustments: &mut [u32],
+)
+    requires { ⌜ Decoded h (now «own_tops») (now «own_ends») (now «own_blocks») ⌝ }
+    requires { ⌜ (h .«interval_count» ≤ length (now «own_adjustments»)) × (roomShort (arraysNow tops ends blocks adjustments) ≡ false) ⌝ }
+    ensures { λ _.
+        ⌜
+        left tops ends blocks adjustments ≡ outOver h (given «own_tops» «own_ends» «own_blocks» «own_adjustments») (given tops ends blocks adjustments)
+        ⌝ }
+{
+    let block_count = h.block_count as usize;
+    let interval_count = h.interval_count as usize;
+    copy(own_tops, block_count, tops);
+    copy(own_ends, interval_count, ends);
+    copy(own_blocks, interval_count, blocks);
+    copy(own_adjustments, interval_count, adjustments);
+}
+
 // The number of the first of rules 12 to 15 that decoded arrays break, or 0; then their table is written.
 fn settle(
     h: Header,
@@ -88,12 +117,17 @@ fn settle(
     if broken != 0 {
         return broken;
     }
-    let block_count = h.block_count as usize;
-    let interval_count = h.interval_count as usize;
-    copy(own_tops, block_count, tops);
-    copy(own_ends, interval_count, ends);
-    copy(own_blocks, interval_count, blocks);
-    copy(own_adjustments, interval_count, adjustments);
+    write_out(
+        h,
+        own_tops,
+        own_ends,
+        own_blocks,
+        own_adjustments,
+        tops,
+        ends,
+        blocks,
+        adjustments,
+    );
     0
 }
 
@@ -130,12 +164,52 @@ fn load_by(
     )
 }
 
-// The intervals, and the blocks, of a file that small arrays do for.
-const FEW: usize = 32;
+// A file of one block and one interval, whose adjustment is 0.
+fn load_alone(
+    f: &[u8],
+    buckets: u32,
+    tops: &mut [u32],
+    ends: &mut [u32],
+    blocks: &mut [u32],
+    adjustments: &mut [u32],
+) -> u32
+    requires { ⌜ Opened (now f) (alone buckets) (arraysNow tops ends blocks adjustments) ⌝ }
+    ensures { λ r. ⌜ Loaded (now (f .entry)) (given tops ends blocks adjustments) r (left tops ends blocks adjustments) ⌝ }
+{
+    let h = Header {
+        buckets,
+        block_count: 1,
+        interval_count: 1,
+    };
+    let mut own_tops = [0u32; 1];
+    let mut own_ends = [0u32; 1];
+    let mut own_blocks = [0u32; 1];
+    let own_adjustments = [0u32; 1];
+    decode(f, h, &mut own_tops, &mut own_ends, &mut own_blocks);
+    let refusal = judged_alone(buckets, &own_tops, &own_ends, &own_blocks, &own_adjustments);
+    if refusal != 0 {
+        return refusal;
+    }
+    write_out(
+        h,
+        &own_tops,
+        &own_ends,
+        &own_blocks,
+        &own_adjustments,
+        tops,
+        ends,
+        blocks,
+        adjustments,
+    );
+    0
+}
 
-const FEW_AT_MOST: u32 = 32;
+// The intervals of a file that small arrays do for, which are cleared quickly.
+const FEW: usize = 128;
 
-// A file of few intervals and blocks: small arrays, which are cleared quickly.
+const FEW_AT_MOST: u32 = 128;
+
+// A file of few intervals.
 fn load_few(
     f: &[u8],
     h: Header,
@@ -145,10 +219,10 @@ fn load_few(
     adjustments: &mut [u32],
 ) -> u32
     requires { ⌜ Opened (now f) h (arraysNow tops ends blocks adjustments) ⌝ }
-    requires { ⌜ (h .«interval_count» ≤ 32) × (h .«block_count» ≤ 32) ⌝ }
+    requires { ⌜ h .«interval_count» ≤ 128 ⌝ }
     ensures { λ r. ⌜ Loaded (now (f .entry)) (given tops ends blocks adjustments) r (left tops ends blocks adjustments) ⌝ }
 {
-    let mut own_tops = [0u32; FEW];
+    let mut own_tops = [0u32; BLOCKS];
     let mut own_ends = [0u32; FEW];
     let mut own_blocks = [0u32; FEW];
     let mut own_adjustments = [0u32; FEW];
@@ -236,11 +310,13 @@ pub fn loaded(
         };
     }
     let h = header_of(f);
-    if FEW_AT_MOST < h.interval_count {
-        let refusal = load_many(f, h, tops, ends, blocks, adjustments);
-        return reply(refusal, h);
+    if h.interval_count == 1 {
+        if h.block_count == 1 {
+            let refusal = load_alone(f, h.buckets, tops, ends, blocks, adjustments);
+            return reply(refusal, h);
+        }
     }
-    if FEW_AT_MOST < h.block_count {
+    if FEW_AT_MOST < h.interval_count {
         let refusal = load_many(f, h, tops, ends, blocks, adjustments);
         return reply(refusal, h);
     }

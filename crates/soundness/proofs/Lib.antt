@@ -1,3 +1,4 @@
+pub mod Answers
 pub mod Flags
 pub mod Passed
 pub mod Turns

@@ -7,7 +7,7 @@ use Rattle.model.specs.Basics.{from, before}
 use Rattle.model.specs.Limits.{maxBlocks}
 use Rattle.model.specs.Table.{Arrays, arrays, table, over}
 use Rattle.model.specs.Place.{held}
-use Rattle.model.specs.Refusal.{Test, first, topsWrong, endsWrong, blocksWrong, holdingsWrong, adjustmentOf}
+use Rattle.model.specs.Refusal.{Test, first, topsWrong, endsWrong, blocksWrong, holdingsWrong, adjustmentOf, adjustmentsWrong}
 use Rattle.model.specs.declared.table.Header.{Header}
 
 -- 11: counts within their limits, and arrays that have them
@@ -25,6 +25,14 @@ layoutTests h tops ends blocks = (12, topsWrong h tops) ∷ (13, endsWrong h end
 
 unfoldable pub arrayTests : Header → Arrays → List Test
 arrayTests h a = layoutTests h (a .tops) (a .ends) (a .blocks) ++ ((15, holdingsWrong h a) ∷ [])
+
+-- the tests of 12 to 16
+unfoldable pub ruleTests : Header → Arrays → List Test
+ruleTests h a = layoutTests h (a .tops) (a .ends) (a .blocks) ++ ((15, holdingsWrong h a) ∷ (16, adjustmentsWrong h a) ∷ [])
+
+-- the header of a table of one block and one interval
+abbrev pub alone : ℕ → Header
+alone b = record { buckets = b; «block_count» = 1; «interval_count» = 1 }
 
 -- 11 and 12
 pub record TopsRight (h : Header) (tops : List ℕ) : Type 0 where

@@ -8,8 +8,8 @@ use model::table::Header;
 use std::num::wrapping_sub_u32;
 use table::due_below;
 ghost use mathlib.Core.Path.{_≡_};
-ghost use mathlib.Core.Bool.{false};
-ghost use mathlib.Core.List.{List, []};
+ghost use mathlib.Core.Bool.{true, false};
+ghost use mathlib.Core.List.{List, [], _∷_};
 ghost use Prim.Native.Nat.{ℕ, _≤_};
 ghost use lib.ListN.{length, replicate};
 ghost use Rattle.model.specs.Lent.{given};
@@ -30,7 +30,7 @@ ghost use Rattle.model.specs.Refusal.{
   first,
 };
 ghost use Rattle.model.specs.Calls.{tableTests};
-ghost use Rattle.soundness.specs.Passed.{Counted, layoutTests, TopsRight, IntervalsRight, Held, Completed};
+ghost use Rattle.soundness.specs.Passed.{Counted, layoutTests, ruleTests, alone, TopsRight, IntervalsRight, Held, Completed};
 
 // Whether x is 0 or above its limit.
 fn is_outside(limit: u32, x: u32) -> bool
@@ -226,6 +226,68 @@ fn holdings_wrong(h: Header, tops: &[u32], sums: &[u32; BLOCKS]) -> bool
     false
 }
 
+// 15, or 16, of a table with a wrong adjustment.
+fn adjustment_refusal(h: Header, tops: &[u32], ends: &[u32], blocks: &[u32]) -> u32
+    requires { ⌜ (TopsRight h (now tops)) × (IntervalsRight h (now ends) (now blocks)) ⌝ }
+    ensures { λ r.
+        ⌜ r ≡ first ((15, holdingsWrong h (arrays (now (tops .entry)) (now (ends .entry)) (now (blocks .entry)) [])) ∷ (16, true) ∷ []) ⌝ }
+{
+    let held = summed(h, ends, blocks);
+    if holdings_wrong(h, tops, &held) {
+        return 15;
+    }
+    16
+}
+
+// The number of the first of rules 12 to 16 that the table breaks, or 0.
+fn judged(h: Header, tops: &[u32], ends: &[u32], blocks: &[u32], adjustments: &[u32]) -> u32
+    requires { ⌜ (Counted h (now tops) (now ends) (now blocks)) × (h .«interval_count» ≤ length (now adjustments)) ⌝ }
+    ensures { λ r. ⌜ r ≡ first (ruleTests h (given tops ends blocks adjustments)) ⌝ }
+{
+    let broken = layout_refusal(h, tops, ends, blocks);
+    if broken != 0 {
+        return broken;
+    }
+    let mut sums = [0u32; BLOCKS];
+    if walked(h, ends, blocks, adjustments, &mut sums) {
+        return adjustment_refusal(h, tops, ends, blocks);
+    }
+    if holdings_wrong(h, tops, &sums) {
+        return 15;
+    }
+    0
+}
+
+// The same of a table of one block and one interval. Its counts are constants here, so that each rule is a few comparisons.
+pub fn judged_alone(
+    buckets: u32,
+    tops: &[u32],
+    ends: &[u32],
+    blocks: &[u32],
+    adjustments: &[u32],
+) -> u32
+    requires { ⌜ (Counted (alone buckets) (now tops) (now ends) (now blocks)) × (1 ≤ length (now adjustments)) ⌝ }
+    ensures { λ r. ⌜ r ≡ first (ruleTests (alone buckets) (given tops ends blocks adjustments)) ⌝ }
+{
+    let h = Header {
+        buckets,
+        block_count: 1,
+        interval_count: 1,
+    };
+    let broken = layout_refusal(h, tops, ends, blocks);
+    if broken != 0 {
+        return broken;
+    }
+    let mut sums = [0u32; BLOCKS];
+    if walked(h, ends, blocks, adjustments, &mut sums) {
+        return adjustment_refusal(h, tops, ends, blocks);
+    }
+    if holdings_wrong(h, tops, &sums) {
+        return 15;
+    }
+    0
+}
+
 // The number of the first of rules 11 to 16 that the table breaks, or 0.
 pub fn check(h: Header, tops: &[u32], ends: &[u32], blocks: &[u32], adjustments: &[u32]) -> u32
     ensures { λ r. ⌜ r ≡ first (tableTests h (given tops ends blocks adjustments)) ⌝ }
@@ -236,22 +298,12 @@ pub fn check(h: Header, tops: &[u32], ends: &[u32], blocks: &[u32], adjustments:
     if arrays_short(h, tops, ends, blocks, adjustments) {
         return 11;
     }
-    let broken = layout_refusal(h, tops, ends, blocks);
-    if broken != 0 {
-        return broken;
-    }
-    let mut sums = [0u32; BLOCKS];
-    if walked(h, ends, blocks, adjustments, &mut sums) {
-        let held = summed(h, ends, blocks);
-        if holdings_wrong(h, tops, &held) {
-            return 15;
+    if h.block_count == 1 {
+        if h.interval_count == 1 {
+            return judged_alone(h.buckets, tops, ends, blocks, adjustments);
         }
-        return 16;
     }
-    if holdings_wrong(h, tops, &sums) {
-        return 15;
-    }
-    0
+    judged(h, tops, ends, blocks, adjustments)
 }
 
 // Works out the adjustments: an interval's start less what its block holds before it. `sums` is then what each block holds.

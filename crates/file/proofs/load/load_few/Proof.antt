@@ -19,8 +19,8 @@ slice-aggregate-load-by-4 c = search needs
 load-by-requires : tie.Need-load-by-requires
 load-by-requires c κs =
     let start = c .before .before .before .before .before .before .before .before .before .before .before .before .before in
-    let few = start .pre .1 .0 in
-    (start .pre .0, record { tops = start .pre .1 .1; ends = few; blocks = few; adjustments = few })
+    let few = start .pre .1 in
+    (start .pre .0, record { tops = omega (arith, start .pre .0 .counted .blockLimit); ends = few; blocks = few; adjustments = few })
 
 same-length : tie.Need-same-length
 same-length c = search needs

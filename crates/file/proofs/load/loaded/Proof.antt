@@ -5,7 +5,7 @@ use native.Mathlib.Omega.{arith}
 use Rattle.model.specs.Table.{arrays}
 use Rattle.model.specs.Saved.{fileWrong}
 use Rattle.file.specs.Loading.{Opened}
-use Rattle.file.proofs.Passed.{counted, opened, file-refused, loaded-replied}
+use Rattle.file.proofs.Passed.{counted, opened, opened-alone, file-refused, loaded-replied}
 use borrow.Author.Needs.{needs}
 use Rattle.file.proofs.load.loaded.Statement.{statement}
 use Rattle.file.proofs.load.loaded.Tie as tie
@@ -36,8 +36,10 @@ ready c = opened _ _ _ (c .header-of .ensures) (passes (c .before)) (start (c .b
 header-of-requires : tie.Need-header-of-requires
 header-of-requires c κs = let k = counted _ _ refl (passes c) in omega arith
 
-load-many-requires : tie.Need-load-many-requires
-load-many-requires c κs = ready (c .before .before .before .before .before .before)
+load-alone-requires : tie.Need-load-alone-requires
+load-alone-requires c κs =
+    let k = c .before .before .before .before in
+    opened-alone _ _ _ (ready (k .before .before .before .before)) (k .if3 .taken) (k .before .before .if2 .taken)
 
 reply-requires : tie.Need-reply-requires
 reply-requires c κs = search needs
@@ -57,10 +59,11 @@ same-length-4 c = search needs
 returns-2 : tie.Need-returns-2
 returns-2 c =
     let called = c .before .before .before .before .before .before .before .before .before in
-    loaded-replied _ _ _ _ _ _ (called .before .before .before .before .before .before .before .header-of .ensures) (called .load-many .ensures) (c .reply .ensures)
+    let opening = called .before .before .before .before .before .before .before .before .before in
+    loaded-replied _ _ _ _ _ _ (opening .header-of .ensures) (called .load-alone .ensures) (c .reply .ensures)
 
-load-many-requires-2 : tie.Need-load-many-requires-2
-load-many-requires-2 c κs = ready (c .before .before .before .before .before .before .before .before)
+load-many-requires : tie.Need-load-many-requires
+load-many-requires c κs = ready (c .before .before .before .before .before .before .before .before)
 
 reply-requires-2 : tie.Need-reply-requires-2
 reply-requires-2 c κs = search needs
@@ -80,10 +83,11 @@ same-length-8 c = search needs
 returns-3 : tie.Need-returns-3
 returns-3 c =
     let called = c .before .before .before .before .before .before .before .before .before in
-    loaded-replied _ _ _ _ _ _ (called .before .before .before .before .before .before .before .before .before .header-of .ensures) (called .load-many2 .ensures) (c .reply2 .ensures)
+    let opening = called .before .before .before .before .before .before .before .before .before in
+    loaded-replied _ _ _ _ _ _ (opening .header-of .ensures) (called .load-many .ensures) (c .reply2 .ensures)
 
 load-few-requires : tie.Need-load-few-requires
-load-few-requires c κs = (ready (c .before .before .before .before .before .before .before .before), (c .before .before .before .before .before .before .if2 .left, c .before .before .before .before .if3 .left))
+load-few-requires c κs = (ready (c .before .before .before .before .before .before .before .before), omega arith)
 
 reply-requires-3 : tie.Need-reply-requires-3
 reply-requires-3 c κs = search needs
@@ -103,7 +107,8 @@ same-length-12 c = search needs
 returns-4 : tie.Need-returns-4
 returns-4 c =
     let called = c .before .before .before .before .before .before .before .before .before in
-    loaded-replied _ _ _ _ _ _ (called .before .before .before .before .before .before .before .before .before .header-of .ensures) (called .load-few .ensures) (c .reply3 .ensures)
+    let opening = called .before .before .before .before .before .before .before .before .before in
+    loaded-replied _ _ _ _ _ _ (opening .header-of .ensures) (called .load-few .ensures) (c .reply3 .ensures)
 
 pub loaded-spec : {M : Type 1} → statement M
 loaded-spec =
@@ -112,14 +117,14 @@ loaded-spec =
     file-wrong-requires
     returns
     header-of-requires
-    load-many-requires
+    load-alone-requires
     reply-requires
     same-length
     same-length-2
     same-length-3
     same-length-4
     returns-2
-    load-many-requires-2
+    load-many-requires
     reply-requires-2
     same-length-5
     same-length-6

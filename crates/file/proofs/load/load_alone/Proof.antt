@@ -1,0 +1,138 @@
+-- `file::load::load_alone` meets its contract: the decoded arrays are the file's, and an adjustment of 0 completes them. Assumes nothing.
+use native.Mathlib.Omega.{arith}
+use Rattle.model.proofs.Tables.{length-from}
+use Rattle.soundness.specs.Passed.{alone}
+use Rattle.file.specs.Loading.{Decoded}
+use Rattle.file.proofs.Passed.{
+  filled,
+  file-decoded,
+  file-loaded,
+  decoded-counted,
+  alone-completed,
+  settled-refused,
+  settled-accepted,
+}
+use borrow.Author.Needs.{needs}
+use Rattle.file.proofs.load.load_alone.Statement.{statement}
+use Rattle.file.proofs.load.load_alone.Tie as tie
+
+slice-aggregate-decode : tie.Need-slice-aggregate-decode
+slice-aggregate-decode c = search needs
+
+slice-aggregate-decode-2 : tie.Need-slice-aggregate-decode-2
+slice-aggregate-decode-2 c = search needs
+
+slice-aggregate-decode-3 : tie.Need-slice-aggregate-decode-3
+slice-aggregate-decode-3 c = search needs
+
+decode-requires : tie.Need-decode-requires
+decode-requires c κs = search needs
+
+slice-aggregate-judged-alone : tie.Need-slice-aggregate-judged-alone
+slice-aggregate-judged-alone c = search needs
+
+slice-aggregate-judged-alone-2 : tie.Need-slice-aggregate-judged-alone-2
+slice-aggregate-judged-alone-2 c = search needs
+
+slice-aggregate-judged-alone-3 : tie.Need-slice-aggregate-judged-alone-3
+slice-aggregate-judged-alone-3 c = search needs
+
+slice-aggregate-judged-alone-4 : tie.Need-slice-aggregate-judged-alone-4
+slice-aggregate-judged-alone-4 c = search needs
+
+-- the decoding before the rules, and the function's entry
+abbrev decoded : tie.After-judged-alone → tie.After-decode
+decoded c = c .before .before .before .before .before .before .before .before
+
+abbrev entry : tie.After-decode → tie.Start
+entry c = c .before .before .before .before .before .before .before .before .before
+
+ready
+    : (c : tie.After-decode)
+    → let own = c .decode .last .1 .1 in Decoded (alone (entry c .args .buckets)) (own .0) (own .1 .0) (own .1 .1 .0)
+ready c =
+    file-decoded _ _ _ (entry c .pre) _ _ _
+    (filled _ _ _ (c .decode .ensures .0) (length-from _ _ _))
+    (filled _ _ _ (c .decode .ensures .1 .0) (length-from _ _ _))
+    (filled _ _ _ (c .decode .ensures .1 .1) (length-from _ _ _))
+
+judged-alone-requires : tie.Need-judged-alone-requires
+judged-alone-requires c κs =
+    (decoded-counted _ _ _ _ (ready (c .before .before .before .before .before .before .before)), omega arith)
+
+returns : tie.Need-returns
+returns c =
+    let k = decoded (c .before) in
+    file-loaded _ _ _ (entry k .pre) _ _ _
+    (filled _ _ _ (k .decode .ensures .0) (length-from _ _ _))
+    (filled _ _ _ (k .decode .ensures .1 .0) (length-from _ _ _))
+    (filled _ _ _ (k .decode .ensures .1 .1) (length-from _ _ _))
+    _ _ _
+    (settled-refused _ _ _ _ (ready k) _ _ _ (alone-completed _ _ _ _ _ _ (omega arith) (c .before .judged-alone .ensures)) _ (c .if1 .taken))
+
+slice-aggregate-write-out : tie.Need-slice-aggregate-write-out
+slice-aggregate-write-out c = search needs
+
+slice-aggregate-write-out-2 : tie.Need-slice-aggregate-write-out-2
+slice-aggregate-write-out-2 c = search needs
+
+slice-aggregate-write-out-3 : tie.Need-slice-aggregate-write-out-3
+slice-aggregate-write-out-3 c = search needs
+
+slice-aggregate-write-out-4 : tie.Need-slice-aggregate-write-out-4
+slice-aggregate-write-out-4 c = search needs
+
+write-out-requires : tie.Need-write-out-requires
+write-out-requires c κs =
+    let k = decoded (c .before .before .before .before .before .before .before .before .before) in
+    (ready k, (omega arith, entry k .pre .room))
+
+same-length : tie.Need-same-length
+same-length c = search needs
+
+same-length-2 : tie.Need-same-length-2
+same-length-2 c = search needs
+
+same-length-3 : tie.Need-same-length-3
+same-length-3 c = search needs
+
+same-length-4 : tie.Need-same-length-4
+same-length-4 c = search needs
+
+returns-2 : tie.Need-returns-2
+returns-2 c =
+    let written = c .before .before .before .before .before .before .before .before in
+    let passed = written .before .before .before .before .before .before .before .before .before in
+    let k = decoded (passed .before) in
+    file-loaded _ _ _ (entry k .pre) _ _ _
+    (filled _ _ _ (k .decode .ensures .0) (length-from _ _ _))
+    (filled _ _ _ (k .decode .ensures .1 .0) (length-from _ _ _))
+    (filled _ _ _ (k .decode .ensures .1 .1) (length-from _ _ _))
+    _ _ _
+    (settled-accepted _ _ _ _ (ready k) _ _ _ (alone-completed _ _ _ _ _ _ (omega arith) (passed .before .judged-alone .ensures)) _ (passed .if1 .left) _
+    (written .write-out .ensures))
+
+pub load-alone-spec : {M : Type 1} → statement M
+load-alone-spec =
+    tie.close
+    (tie.spec
+    slice-aggregate-decode
+    slice-aggregate-decode-2
+    slice-aggregate-decode-3
+    decode-requires
+    slice-aggregate-judged-alone
+    slice-aggregate-judged-alone-2
+    slice-aggregate-judged-alone-3
+    slice-aggregate-judged-alone-4
+    judged-alone-requires
+    returns
+    slice-aggregate-write-out
+    slice-aggregate-write-out-2
+    slice-aggregate-write-out-3
+    slice-aggregate-write-out-4
+    write-out-requires
+    same-length
+    same-length-2
+    same-length-3
+    same-length-4
+    returns-2)

@@ -1,0 +1,84 @@
+-- `file::load::write_out` meets its contract: each array is written with its part. Assumes nothing.
+use native.Mathlib.Omega.{arith}
+use Rattle.model.specs.Table.{arrays}
+use Rattle.model.proofs.Rooms.{Roomy, roomy}
+use borrow.Author.Needs.{needs}
+use Rattle.file.proofs.load.write_out.Statement.{statement}
+use Rattle.file.proofs.load.write_out.Tie as tie
+
+-- the function's entry, from after the first copy, and from one copy to the one before it
+abbrev entry : tie.After-copy → tie.Start
+entry c = c .before .before .before .before .before .before .before .before .before .before .before .before
+
+abbrev after2 : tie.After-copy2 → tie.After-copy
+after2 c = c .before .before .before .before
+
+abbrev after3 : tie.After-copy3 → tie.After-copy2
+after3 c = c .before .before .before .before
+
+-- the arrays have room
+room
+    : (c : tie.Start)
+    → Roomy (arrays (c .args .tops .now) (c .args .ends .now) (c .args .blocks .now) (c .args .adjustments .now))
+room c = roomy _ (c .pre .1 .1)
+
+cast-block-count : tie.Need-cast-block-count
+cast-block-count c = search needs
+
+cast-interval-count : tie.Need-cast-interval-count
+cast-interval-count c = search needs
+
+copy-requires : tie.Need-copy-requires
+copy-requires c κs =
+    let start = c .before .before .before .before .before .before .before .before .before .before .before in
+    let d = start .pre .0 in
+    let r = room start in
+    omega arith
+
+copy-requires-2 : tie.Need-copy-requires-2
+copy-requires-2 c κs =
+    let start = entry (c .before .before .before) in let d = start .pre .0 in let r = room start in omega arith
+
+copy-requires-3 : tie.Need-copy-requires-3
+copy-requires-3 c κs =
+    let start = entry (after2 (c .before .before .before)) in let d = start .pre .0 in let r = room start in omega arith
+
+copy-requires-4 : tie.Need-copy-requires-4
+copy-requires-4 c κs =
+    let start = entry (after2 (after3 (c .before .before .before))) in let d = start .pre .0 in let r = room start in omega arith
+
+same-length : tie.Need-same-length
+same-length c = search needs
+
+same-length-2 : tie.Need-same-length-2
+same-length-2 c = search needs
+
+same-length-3 : tie.Need-same-length-3
+same-length-3 c = search needs
+
+same-length-4 : tie.Need-same-length-4
+same-length-4 c = search needs
+
+returns : tie.Need-returns
+returns c =
+    let c4 = c .before .before in
+    let c3 = c4 .before .before .before .before in
+    let c2 = after3 c3 in
+    let c1 = after2 c2 in
+    λ i. arrays (c1 .copy .ensures i) (c2 .copy2 .ensures i) (c3 .copy3 .ensures i) (c4 .copy4 .ensures i)
+
+pub write-out-spec : {M : Type 1} → statement M
+write-out-spec =
+    tie.close
+    (tie.spec
+    cast-block-count
+    cast-interval-count
+    copy-requires
+    copy-requires-2
+    copy-requires-3
+    copy-requires-4
+    same-length
+    same-length-2
+    same-length-3
+    same-length-4
+    returns)
