@@ -2,7 +2,7 @@
 use Prim.Native.Nat.{ℕ, zero, suc, _+_, _*_, _/_, _%_, _^_, _≤_, _<_}
 use mathlib.Core.Path.{_≡_, sym, _∙_, ap}
 use mathlib.Core.Logic.{⊎-elim}
-use mathlib.Core.List.{List, [], _∷_, _++_}
+use mathlib.Core.List.{List, [], _∷_, _++_, append-assoc}
 use native.Mathlib.Nat.{mod-eq-of-lt, pow-suc, one-le-pow}
 use native.Mathlib.Omega.{arith}
 use lib.ListN.{length, length-append}
@@ -10,6 +10,7 @@ use borrow.Author.Tests.{lt-ltb, le-ltb}
 use Rattle.model.specs.Basics.{if_then_else_}
 use Rattle.model.specs.Console.{digits, decimal}
 use Rattle.model.proofs.Counts.{below-or}
+use Rattle.print.specs.Numbers.{pairOf}
 
 -- one digit
 digits-one : (k n : ℕ) → n < 10 → digits (suc k) n ≡ (48 + n) ∷ []
@@ -62,11 +63,28 @@ pub decimal-one : (n : ℕ) → n < 10 → decimal n ≡ (48 + n) ∷ []
 unfolding decimal
 decimal-one n l = digits-one 9 n l
 
-pub decimal-more : (n : ℕ) → n < 2 ^ 32 → 10 ≤ n → decimal n ≡ decimal (n / 10) ++ (48 + n % 10) ∷ []
+decimal-more : (n : ℕ) → n < 2 ^ 32 → 10 ≤ n → decimal n ≡ decimal (n / 10) ++ (48 + n % 10) ∷ []
 unfolding decimal
 decimal-more n f l =
     digits-more 9 n l
     ∙ ap (λ (ds : List ℕ). ds ++ (48 + n % 10) ∷ []) (sym (digits-enough 8 (n / 10) (omega arith)))
+
+-- two digits
+pub decimal-two : (n : ℕ) → 10 ≤ n → n < 100 → decimal n ≡ pairOf n
+decimal-two n l h =
+    decimal-more n (omega arith) l
+    ∙ ap (λ (ds : List ℕ). ds ++ (48 + n % 10) ∷ []) (decimal-one (n / 10) (omega arith))
+
+-- more than two: the last two follow those of a hundredth
+pub decimal-pair : (n : ℕ) → n < 2 ^ 32 → 100 ≤ n → decimal n ≡ decimal (n / 100) ++ pairOf (n % 100)
+decimal-pair n f l =
+    let hundredth : n / 10 / 10 ≡ n / 100 = omega arith in
+    let tens : n / 10 % 10 ≡ n % 100 / 10 = omega arith in
+    let ones : n % 10 ≡ n % 100 % 10 = omega arith in
+    decimal-more n f (omega arith)
+    ∙ ap (λ (ds : List ℕ). ds ++ (48 + n % 10) ∷ []) (decimal-more (n / 10) (omega arith) (omega arith))
+    ∙ append-assoc (decimal (n / 10 / 10)) ((48 + n / 10 % 10) ∷ []) ((48 + n % 10) ∷ [])
+    ∙ rw (hundredth, tens, ones)
 
 pub decimal-length : (w n : ℕ) → w < 10 → 10 ^ w ≤ n → n < 10 ^ suc w → suc w ≡ length (decimal n)
 unfolding decimal

@@ -1,5 +1,5 @@
 -- The parts of a printed line. Assumes nothing.
-use Prim.Native.Nat.{ℕ}
+use Prim.Native.Nat.{ℕ, _+_, _/_, _%_}
 use mathlib.Core.List.{List, [], _∷_, _++_, map}
 use Rattle.model.specs.Basics.{joined}
 use Rattle.model.specs.Console.{decimal}
@@ -10,6 +10,10 @@ lineRoom = 64
 
 abbrev pub moveRoom : ℕ
 moveRoom = 60
+
+-- the two digits of a number below 100, the tens first
+abbrev pub pairOf : ℕ → List ℕ
+pairOf p = (48 + p / 10) ∷ (48 + p % 10) ∷ []
 
 -- numbers in decimal, a blank before each
 unfoldable pub numbers : List ℕ → List ℕ
