@@ -2,13 +2,12 @@
 use Prim.Native.Nat.{ℕ}
 use mathlib.Core.Path.{_≡_, refl, sym, _∙_, ap, ap₂}
 use mathlib.Core.Bool.{true, not, true≢false}
-use mathlib.Core.List.{List, [], _∷_, _++_, append-nil}
+use mathlib.Core.List.{List, _++_, append-nil}
 use native.Mathlib.Decide.{ℕ-discrete}
 use native.Mathlib.Omega.{arith}
 use Rattle.model.specs.Basics.{if_then_else_, _and_, joined}
 use Rattle.model.specs.Initial.{initial}
 use Rattle.model.specs.Expansion.{expanded}
-use Rattle.model.specs.Calls.{answer}
 use Rattle.model.specs.Table.{sizes}
 use Rattle.model.specs.Console.{Session, fresh, noMap, isFresh, isUnreadable, commandRefusal, read, movesOf, moveText}
 use Rattle.model.specs.Console.{accepted, acceptedAnswer, commandAnswer, answerText, after, printed}

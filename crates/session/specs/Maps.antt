@@ -2,8 +2,8 @@
 use Prim.Native.Nat.{ℕ}
 use mathlib.Core.Path.{_≡_}
 use mathlib.Core.Bool.{Bool, true, false, not}
-use mathlib.Core.List.{List, [], _∷_}
-use lib.ListN.{length, drop}
+use mathlib.Core.List.{List, []}
+use lib.ListN.{drop}
 use lib.Dec.{eqb}
 use Rattle.model.specs.Basics.{if_then_else_, _and_}
 use Rattle.model.specs.Table.{Shape, Table, Arrays, table, header, written, sizes}

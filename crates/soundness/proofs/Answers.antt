@@ -1,9 +1,9 @@
 -- The answer of rules 12 to 16, by what the functions of the rules answer. Assumes nothing.
 use Prim.Native.Nat.{ℕ}
-use mathlib.Core.Path.{_≡_, refl, sym, _∙_, ap}
+use mathlib.Core.Path.{_≡_, sym, _∙_, ap}
 use mathlib.Core.Bool.{Bool, true, false}
 use mathlib.Core.List.{List, [], _∷_}
-use Rattle.model.specs.Table.{Arrays, arrays}
+use Rattle.model.specs.Table.{arrays}
 use Rattle.model.specs.Refusal.{first, holdingsWrong, adjustmentsWrong}
 use Rattle.model.specs.declared.table.Header.{Header}
 use Rattle.model.proofs.Refusals.{first-none, first-here, first-skip, first-found}

@@ -7,7 +7,7 @@ use Rattle.model.specs.Basics.{before}
 use Rattle.model.proofs.Rules.{before-next}
 use Rattle.lookup.specs.Search.{Among}
 use Rattle.lookup.proofs.Narrowing.{past-most, among-all, among-less}
-use Rattle.lookup.proofs.Searches.{adjustment-below, located-at, located-outside}
+use Rattle.lookup.proofs.Searches.{located-at, located-outside}
 use Rattle.lookup.proofs.locate.Statement.{statement}
 use Rattle.lookup.proofs.locate.Tie as tie
 

@@ -2,7 +2,7 @@
 use Prim.Native.Nat.{_/_}
 use native.Mathlib.Omega.{arith}
 use Rattle.lookup.specs.Search.{Among}
-use Rattle.lookup.proofs.Narrowing.{past-most, among-all, among-quarter}
+use Rattle.lookup.proofs.Narrowing.{past-most, among-quarter}
 use Rattle.lookup.proofs.narrow.Statement.{statement}
 use Rattle.lookup.proofs.narrow.Tie as tie
 
