@@ -1,18 +1,19 @@
 -- What the shell's loops keep: a turn that leaves more to do leaves less than there was, and a read keeps what is left. Assumes nothing.
 use Prim.Native.Nat.{ℕ, _+_, _≤_, _<_}
 use mathlib.Core.Path.{_≡_, refl, sym, _∙_, ap}
-use mathlib.Core.Bool.{Bool, true, false, not, true≢false}
+use mathlib.Core.Bool.{Bool, true, false, not}
 use mathlib.Core.List.{List, [], _++_, append-assoc}
 use native.Mathlib.Omega.{arith}
 use lib.ListN.{length, take, length-append}
+use lib.Seq.{length-take-le}
 use Rattle.console.specs.Rack.{Rack}
 use Rattle.machine.specs.Standing.{Standing, due, Goes, Turned}
-use Rattle.machine.specs.Machine.{bytesOf, Rests, Ready, Turns}
+use Rattle.machine.specs.Machine.{stands, bytesOf, Rests, Ready, Turns}
 use Rattle.machine.specs.declared.After.{After}
 use Rattle.machine.specs.declared.Machine.{Machine}
 use Rattle.machine.proofs.Going.{goes-none, goes-then}
-use Rattle.shell.specs.Shell.{Taped, Worked}
-use Rattle.shell.proofs.Taping.{taped-none, taped-more}
+use Rattle.shell.specs.Shell.{Logged, Worked}
+use Rattle.shell.proofs.Logging.{logged-none, logged-more}
 
 -- TURNS
 
@@ -40,27 +41,51 @@ goes-behind text {s} {s′} {put} g =
       session = g .session;
     }
 
--- before the first turn, and after one more
-pub worked-none
-    : {m : Machine} {k : Rack} {block tape : List ℕ} {n : ℕ} → Ready m k block → n ≤ length tape
-    → Worked m k block tape n (record { machine = m; said = n; more = true }) k block tape
-worked-none {tape = tape} {n = n} r l =
-    record { text = []; taped = taped-none tape n l; goes = goes-none; ready = r; rests = λ e. absurd (true≢false e) }
+-- the turns so far: the text that they put, recorded, and the machine, which has gone on by it and can go on
+pub record Working
+    (m : Machine) (k : Rack) (block log : List ℕ) (n : ℕ) (m′ : Machine) (n′ : ℕ) (k′ : Rack) (block′ log′ : List ℕ)
+    : Type 0
+  where
+    pub text : List ℕ
+    pub logged : Logged log n text log′ n′
+    pub goes : Goes [] (stands m k (bytesOf m block)) text (stands m′ k′ (bytesOf m′ block′))
+    pub ready : Ready m′ k′ block′
 
-pub worked-then
-    : {m m₁ : Machine} {k k₁ k₂ : Rack} {block block₁ block₂ tape tape₁ tape₂ out : List ℕ} {n n₁ n₂ : ℕ} {a : After}
-    → Worked m k block tape n (record { machine = m₁; said = n₁; more = true }) k₁ block₁ tape₁
-    → Turns m₁ k₁ block₁ a k₂ block₂ out → Taped tape₁ n₁ (take (a .put) out) tape₂ n₂
-    → (more : Bool) → (more ≡ false → a .more ≡ false)
-    → Worked m k block tape n (record { machine = a .machine; said = n₂; more = more }) k₂ block₂ tape₂
-worked-then {out = out} {a = a} w t p more h =
-    record {
-      text = w .text ++ take (a .put) out;
-      taped = taped-more (w .taped) p;
-      goes = goes-then (w .goes) (goes-behind (w .text) (t .turned .goes));
-      ready = t .ready;
-      rests = λ e. t .rests (h e);
-    }
+-- before the first turn, after one more, and at the end
+pub working-none
+    : {m : Machine} {k : Rack} {block log : List ℕ} {n : ℕ} → Ready m k block → n ≤ length log
+    → Working m k block log n m n k block log
+working-none {log = log} {n = n} r l = record { text = []; logged = logged-none log n l; goes = goes-none; ready = r }
+
+module _
+    {m m₁ : Machine} {k k₁ k₂ : Rack} {block block₁ block₂ log log₁ log₂ out : List ℕ} {n n₁ n₂ : ℕ} {a : After}
+    (w : Working m k block log n m₁ n₁ k₁ block₁ log₁) (t : Turns m₁ k₁ block₁ a k₂ block₂ out)
+    (p : Logged log₁ n₁ (take (a .put) out) log₂ n₂)
+  where
+    pub working-then : Working m k block log n (a .machine) n₂ k₂ block₂ log₂
+    working-then =
+        record {
+          text = w .text ++ take (a .put) out;
+          logged = logged-more (w .logged) p;
+          goes = goes-then (w .goes) (goes-behind (w .text) (t .turned .goes));
+          ready = t .ready;
+        }
+
+    pub worked-done
+        : (closed : Bool) → (closed ≡ false → a .more ≡ false) → (closed ≡ true → 0 < a .put)
+        → Worked m k block log n (record { machine = a .machine; text = n₂; closed = closed }) k₂ block₂ log₂
+    unfolding working-then
+    worked-done closed h f =
+        record {
+          text = working-then .text;
+          logged = working-then .logged;
+          goes = working-then .goes;
+          ready = working-then .ready;
+          rests = λ e. t .rests (h e);
+          tried = λ e.
+              let some = f e in
+              omega (arith, length-append (w .text) (take (a .put) out), length-take-le (a .put) out (t .room));
+        }
 
 -- BYTES READ BEHIND THOSE THAT ARE LEFT
 

@@ -1,3 +1,3 @@
 pub mod Falling
 pub mod Running
-pub mod Taping
+pub mod Logging

@@ -1,12 +1,12 @@
 -- What a run keeps: its input and its text, recorded, and the text with what is due is the output of the input and what follows.
 -- Assumes nothing.
-use Prim.Native.Nat.{ℕ, zero, suc, _+_, _-_, _≤_, _<_}
+use Prim.Native.Nat.{ℕ, zero, suc, _+_, _-_, _^_, _≤_, _<_}
 use mathlib.Core.Path.{_≡_, refl, sym, _∙_, ap, ap₂, subst}
-use mathlib.Core.Bool.{Bool, true, false, true≢false, false≢true}
+use mathlib.Core.Bool.{true, false, true≢false}
 use mathlib.Core.List.{List, [], _∷_, _++_, append-nil, append-assoc}
 use native.Mathlib.Omega.{arith}
 use lib.Dec.{eqb, eqb·suc-zero}
-use lib.ListN.{length, take, drop, length-drop}
+use lib.ListN.{length, take, drop, length-append, length-drop}
 use lib.Seq.{length-take-le}
 use Rattle.model.specs.Console.{output}
 use Rattle.console.specs.Rack.{Rack}
@@ -14,25 +14,30 @@ use Rattle.machine.specs.Standing.{Standing, beginning, due, Goes, Idle, receiv
 use Rattle.machine.specs.Machine.{stands, bytesOf, Rests}
 use Rattle.machine.specs.declared.Machine.{Machine}
 use Rattle.machine.proofs.Folding.{ended-gone, due-closed, ended-closed, due-none, due-received, due-beginning}
-use Rattle.shell.specs.Shell.{Taped, Ran}
-use Rattle.shell.proofs.Taping.{taped-none, taped-more}
+use Rattle.shell.specs.Shell.{Logged, Ends, Ran}
+use Rattle.shell.specs.declared.End.{End}
+use Rattle.shell.specs.declared.End.the-variants.{Whole, Closed, Spent}
+use Rattle.shell.proofs.Logging.{logged-none, logged-more}
 
-pub record Going (tape₁ tape₂ tape₁′ tape₂′ : List ℕ) (n k : ℕ) (s : Standing) : Type 0 where
+pub record Going (log₁ log₂ log₁′ log₂′ : List ℕ) (n k reads : ℕ) (s : Standing) : Type 0 where
   pub input : List ℕ
   pub text : List ℕ
-  pub heard : Taped tape₁ 0 input tape₁′ n
-  pub said : Taped tape₂ 0 text tape₂′ k
+  pub inputLogged : Logged log₁ 0 input log₁′ n
+  pub textLogged : Logged log₂ 0 text log₂′ k
   pub told : (more : List ℕ) → text ++ due s more ≡ output (input ++ more)
+  pub many : 2 ^ 64 ≤ reads + length input + 1
 
 -- before the first block
-pub going-none : (tape₁ tape₂ : List ℕ) (s : Standing) → s ≡ beginning → Going tape₁ tape₂ tape₁ tape₂ 0 0 s
-going-none tape₁ tape₂ s e =
+pub going-none
+    : (log₁ log₂ : List ℕ) (reads : ℕ) (s : Standing) → s ≡ beginning → 2 ^ 64 ≤ reads + 1 → Going log₁ log₂ log₁ log₂ 0 0 reads s
+going-none log₁ log₂ reads s e h =
     record {
       input = [];
       text = [];
-      heard = taped-none tape₁ 0 (omega arith);
-      said = taped-none tape₂ 0 (omega arith);
+      inputLogged = logged-none log₁ 0 (omega arith);
+      textLogged = logged-none log₂ 0 (omega arith);
       told = λ more. ap (λ (z : Standing). due z more) e ∙ due-beginning more;
+      many = omega arith;
     }
 
 -- nothing is left to do where a machine rests
@@ -49,15 +54,6 @@ module _ (size got : ℕ) (block : List ℕ) where
   between-length h =
       ap length (sym between) ∙ length-take-le got (drop size block) (omega (arith, length-drop size block))
 
--- whether a number is 0
-pub none : (n : ℕ) → eqb n 0 ≡ true → n ≡ 0
-none zero e = refl
-none (suc n) e = absurd (true≢false (sym e ∙ eqb·suc-zero n))
-
-pub some : (n : ℕ) → eqb n 0 ≡ false → 0 < n
-some zero e = absurd (true≢false e)
-some (suc n) e = omega arith
-
 -- turns after bytes received: those that are recorded, behind the bytes as they stood before the read
 pub went-on
     : {z s′ : Standing} {put b b₁ l l₁ : List ℕ} (m : Machine) (k : Rack) → z ≡ received b₁ (stands m k l₁) → b₁ ≡ b → l₁ ≡ l
@@ -65,68 +61,79 @@ pub went-on
 went-on {s′ = s′} {put = put} m k e part same g =
     subst (λ (z : Standing). Goes [] z put s′) (e ∙ ap₂ (λ (b l : List ℕ). received b (stands m k l)) part same) g
 
-module _ {tape₁ tape₂ tape₁′ tape₂′ : List ℕ} {n k : ℕ} {s : Standing} (g : Going tape₁ tape₂ tape₁′ tape₂′ n k s) where
-  -- given up between two blocks
-  pub going-ran : Ran tape₁ tape₂ tape₁′ tape₂′ (record { heard = n; said = k; whole = false })
-  going-ran =
-      record {
-        input = g .input;
-        text = g .text;
-        unwritten = due s [];
-        heard = g .heard;
-        said = g .said;
-        told = g .told [] ∙ ap output (append-nil (g .input));
-        whole = λ e. absurd (false≢true e);
-      }
+module _
+    {log₁ log₂ log₁′ log₂′ : List ℕ} {n k reads : ℕ} {s : Standing} (g : Going log₁ log₂ log₁′ log₂′ n k reads s)
+  where
+    -- the reads are spent
+    pub going-spent : reads ≡ 0 → Ran log₁ log₂ log₁′ log₂′ (record { input = n; text = k; end = Spent })
+    going-spent e =
+        record {
+          input = g .input;
+          text = g .text;
+          missing = due s [];
+          inputLogged = g .inputLogged;
+          textLogged = g .textLogged;
+          told = g .told [] ∙ ap output (append-nil (g .input));
+          ended = omega (arith, g .many);
+        }
 
-  -- bytes b received, and turns that put a text
-  module _
-      {b put tape₁″ tape₂″ : List ℕ} {n′ k′ : ℕ} {s′ : Standing} (h : Taped tape₁′ n b tape₁″ n′) (t : Taped tape₂′ k put tape₂″ k′)
-      (goes : Goes [] (received b s) put s′)
-    where
-      text-more : (more : List ℕ) → (g .text ++ put) ++ due s′ more ≡ g .text ++ due (received b s) more
-      text-more more =
-          append-assoc (g .text) put (due s′ more) ∙ ap (λ (l : List ℕ). g .text ++ l) (goes .text more)
+    -- bytes b received, and turns that put a text
+    module _
+        {b put log₁″ log₂″ : List ℕ} {n′ k′ : ℕ} {s′ : Standing} (h : Logged log₁′ n b log₁″ n′) (t : Logged log₂′ k put log₂″ k′)
+        (goes : Goes [] (received b s) put s′)
+      where
+        text-more : (more : List ℕ) → (g .text ++ put) ++ due s′ more ≡ g .text ++ due (received b s) more
+        text-more more =
+            append-assoc (g .text) put (due s′ more) ∙ ap (λ (l : List ℕ). g .text ++ l) (goes .text more)
 
-      -- the input goes on
-      heard-more : (b₀ : List ℕ) → b₀ ≡ b → 0 < length b₀ → (more : List ℕ) → due (received b₀ s) more ≡ due s (b₀ ++ more)
-      heard-more [] e l more = absurd (omega arith)
-      heard-more (c ∷ b₀) e l more = due-received s c b₀ more
+        -- the input goes on
+        due-more : (b₀ : List ℕ) → b₀ ≡ b → 0 < length b₀ → (more : List ℕ) → due (received b₀ s) more ≡ due s (b₀ ++ more)
+        due-more [] e l more = absurd (omega arith)
+        due-more (c ∷ b₀) e l more = due-received s c b₀ more
 
-      pub going-on : 0 < length b → Going tape₁ tape₂ tape₁″ tape₂″ n′ k′ s′
-      going-on l =
-          record {
-            input = g .input ++ b;
-            text = g .text ++ put;
-            heard = taped-more (g .heard) h;
-            said = taped-more (g .said) t;
-            told = λ more.
-                text-more more
-                ∙ ap (λ (z : List ℕ). g .text ++ z) (heard-more b refl l more)
-                ∙ g .told (b ++ more)
-                ∙ ap output (sym (append-assoc (g .input) b more));
-          }
-
-      -- the input ends, or the run is given up
-      module _ (idle : Idle s) where
-        heard-last : (b₀ : List ℕ) → due (received b₀ s) [] ≡ due s b₀
-        heard-last [] = due-closed s idle
-        heard-last (c ∷ b₀) = due-received s c b₀ [] ∙ ap (due s) (append-nil (c ∷ b₀))
-
-        nothing-due : (b₀ : List ℕ) → length b₀ ≡ 0 → Goes [] (received b₀ s) put s′ → Idle s′ → due s′ [] ≡ []
-        nothing-due [] e went i = due-none s′ i (ended-gone went (ended-closed s idle))
-        nothing-due (c ∷ b₀) e went i = absurd (omega arith)
-
-        pub going-ends
-            : (whole : Bool) → (whole ≡ true → (length b ≡ 0) × Idle s′)
-            → Ran tape₁ tape₂ tape₁″ tape₂″ (record { heard = n′; said = k′; whole = whole })
-        going-ends whole ended =
+        pub going-on : 0 < reads → 0 < length b → Going log₁ log₂ log₁″ log₂″ n′ k′ (reads - 1) s′
+        going-on r l =
             record {
               input = g .input ++ b;
               text = g .text ++ put;
-              unwritten = due s′ [];
-              heard = taped-more (g .heard) h;
-              said = taped-more (g .said) t;
-              told = text-more [] ∙ ap (λ (z : List ℕ). g .text ++ z) (heard-last b) ∙ g .told b;
-              whole = λ e. let last = ended e in nothing-due b (last .0) goes (last .1);
+              inputLogged = logged-more (g .inputLogged) h;
+              textLogged = logged-more (g .textLogged) t;
+              told = λ more.
+                  text-more more
+                  ∙ ap (λ (z : List ℕ). g .text ++ z) (due-more b refl l more)
+                  ∙ g .told (b ++ more)
+                  ∙ ap output (sym (append-assoc (g .input) b more));
+              many = omega (arith, g .many, length-append (g .input) b);
             }
+
+        -- the run ends
+        module _ (idle : Idle s) where
+          due-last : (b₀ : List ℕ) → due (received b₀ s) [] ≡ due s b₀
+          due-last [] = due-closed s idle
+          due-last (c ∷ b₀) = due-received s c b₀ [] ∙ ap (due s) (append-nil (c ∷ b₀))
+
+          ends
+              : (end : End) → Ends end (g .input ++ b) (g .text ++ put) (due s′ [])
+              → Ran log₁ log₂ log₁″ log₂″ (record { input = n′; text = k′; end = end })
+          ends end e =
+              record {
+                input = g .input ++ b;
+                text = g .text ++ put;
+                missing = due s′ [];
+                inputLogged = logged-more (g .inputLogged) h;
+                textLogged = logged-more (g .textLogged) t;
+                told = text-more [] ∙ ap (λ (z : List ℕ). g .text ++ z) (due-last b) ∙ g .told b;
+                ended = e;
+              }
+
+          -- with its input
+          nothing-due : (b₀ : List ℕ) → length b₀ ≡ 0 → Goes [] (received b₀ s) put s′ → Idle s′ → due s′ [] ≡ []
+          nothing-due [] e went i = due-none s′ i (ended-gone went (ended-closed s idle))
+          nothing-due (c ∷ b₀) e went i = absurd (omega arith)
+
+          pub going-whole : length b ≡ 0 → Idle s′ → Ran log₁ log₂ log₁″ log₂″ (record { input = n′; text = k′; end = Whole })
+          going-whole e i = ends Whole (nothing-due b e goes i)
+
+          -- at a write that failed
+          pub going-closed : 0 < length put → Ran log₁ log₂ log₁″ log₂″ (record { input = n′; text = k′; end = Closed })
+          going-closed l = ends Closed (omega (arith, length-append (g .text) put))

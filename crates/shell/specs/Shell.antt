@@ -1,5 +1,5 @@
--- What the shell does, as far as its tapes tell. Assumes nothing.
-use Prim.Native.Nat.{ℕ, _+_, min}
+-- What the shell does, as far as its logs tell. Assumes nothing.
+use Prim.Native.Nat.{ℕ, _+_, _^_, _≤_, _<_, min}
 use mathlib.Core.Path.{_≡_}
 use mathlib.Core.Bool.{true, false}
 use mathlib.Core.List.{List, [], _++_}
@@ -12,41 +12,51 @@ use Rattle.machine.specs.Standing.{Goes}
 use Rattle.machine.specs.Machine.{stands, bytesOf, Rests, Ready}
 use Rattle.machine.specs.declared.Machine.{Machine}
 use Rattle.shell.specs.declared.Done.{Done}
+use Rattle.shell.specs.declared.End.{End}
+use Rattle.shell.specs.declared.End.the-variants.{Whole, Closed, Spent}
 use Rattle.shell.specs.declared.Outcome.{Outcome}
 
--- bytes recorded on a tape from place n on, as many as it has room for: the tape and the place afterwards
-pub record Taped (tape : List ℕ) (n : ℕ) (bytes tape′ : List ℕ) (n′ : ℕ) : Type 0 where
-  pub holds : tape′ ≡ sets tape n bytes
-  pub place : n′ ≡ min (n + length bytes) (length tape)
+-- bytes recorded in a log from place n on, as many as it has room for: the log and the place afterwards
+pub record Logged (log : List ℕ) (n : ℕ) (bytes log′ : List ℕ) (n′ : ℕ) : Type 0 where
+  pub holds : log′ ≡ sets log n bytes
+  pub place : n′ ≡ min (n + length bytes) (length log)
 
 -- turns of the machine: the text that they put, recorded; and the machine, which has gone on by that text, can go on, and has nothing
--- left to do where no work is left
+-- left to do unless a write failed, which had something to write
 pub record Worked
-    (m : Machine) (k : Rack) (block tape : List ℕ) (n : ℕ) (r : Done) (k′ : Rack) (block′ tape′ : List ℕ)
+    (m : Machine) (k : Rack) (block log : List ℕ) (n : ℕ) (r : Done) (k′ : Rack) (block′ log′ : List ℕ)
     : Type 0
   where
     pub text : List ℕ
-    pub taped : Taped tape n text tape′ (r .said)
+    pub logged : Logged log n text log′ (r .text)
     pub goes : Goes [] (stands m k (bytesOf m block)) text (stands (r .machine) k′ (bytesOf (r .machine) block′))
     pub ready : Ready (r .machine) k′ block′
-    pub rests : r .more ≡ false → Rests (r .machine) block′
+    pub rests : r .closed ≡ false → Rests (r .machine) block′
+    pub tried : r .closed ≡ true → 0 < length text
 
--- a whole run: its input and its text, each recorded from the first place on; the text is document 01's output of the input, and
--- only its beginning where the run was given up
-pub record Ran (tape₁ tape₂ tape₁′ tape₂′ : List ℕ) (r : Outcome) : Type 0 where
+-- what each end of a run says of its input, its text and the output that is missing: of a whole run nothing is missing; a write that
+-- failed had some text to write; and the reads are spent only by 2^64 - 1 of them, each of which brought a byte or more
+abbrev pub Ends : End → List ℕ → List ℕ → List ℕ → Type 0
+Ends Whole input text missing = missing ≡ []
+Ends Closed input text missing = 0 < length text
+Ends Spent input text missing = 2 ^ 64 ≤ length input + 1
+
+-- a run: its input and its text, each recorded from the first place on; the text is document 01's output of the input, but for what
+-- is missing at its end
+pub record Ran (log₁ log₂ log₁′ log₂′ : List ℕ) (r : Outcome) : Type 0 where
   pub input : List ℕ
   pub text : List ℕ
-  pub unwritten : List ℕ
-  pub heard : Taped tape₁ 0 input tape₁′ (r .heard)
-  pub said : Taped tape₂ 0 text tape₂′ (r .said)
-  pub told : text ++ unwritten ≡ output input
-  pub whole : r .whole ≡ true → unwritten ≡ []
+  pub missing : List ℕ
+  pub inputLogged : Logged log₁ 0 input log₁′ (r .input)
+  pub textLogged : Logged log₂ 0 text log₂′ (r .text)
+  pub told : text ++ missing ≡ output input
+  pub ended : Ends (r .end) input text missing
 
 -- the same of lent arrays
 abbrev pub Works : Machine → Lents → Lents → Lents → Lents → Lents → Lents → Lents → Lents → Lents → Lents → ℕ → Done → Type 0
-Works m block t e b a t₂ e₂ b₂ a₂ tape n r =
-    Worked m (rackGiven (m .state) t e b a t₂ e₂ b₂ a₂) (block .entry .now) (tape .entry .now) n r
-    (rackLeft (r .machine .state) t e b a t₂ e₂ b₂ a₂) (block .exit .now) (tape .exit .now)
+Works m block t e b a t₂ e₂ b₂ a₂ log n r =
+    Worked m (rackGiven (m .state) t e b a t₂ e₂ b₂ a₂) (block .entry .now) (log .entry .now) n r
+    (rackLeft (r .machine .state) t e b a t₂ e₂ b₂ a₂) (block .exit .now) (log .exit .now)
 
 abbrev pub Runs : Lents → Lents → Outcome → Type 0
-Runs heard said r = Ran (heard .entry .now) (said .entry .now) (heard .exit .now) (said .exit .now) r
+Runs input text r = Ran (input .entry .now) (text .entry .now) (input .exit .now) (text .exit .now) r

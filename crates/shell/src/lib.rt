@@ -15,26 +15,37 @@ ghost use lib.ListN.{length, take};
 ghost use Rattle.model.specs.Lent.{arraysNow};
 ghost use Rattle.model.specs.Refusal.{roomShort};
 ghost use Rattle.machine.specs.Machine.{ReadyNow};
-ghost use Rattle.shell.specs.Shell.{Taped, Works, Runs};
+ghost use Rattle.shell.specs.Shell.{Logged, Works, Runs};
 
-// After the turns over a block: the machine, the place reached on the tape, and whether work is left because the output is closed.
+// After the turns over a block: the machine, the place reached in the log, and whether a write failed, which leaves the rest undone.
 struct Done {
     machine: Machine,
-    said: usize,
-    more: bool,
+    text: usize,
+    closed: bool,
 }
 
-// A run: how many bytes of its input and of its output its two tapes hold, and whether the input ended and all is written.
+// What ended a run: the end of its input, with all of the text put; a write that failed; or the count of its reads.
+pub enum End {
+    Whole,
+    Closed,
+    Spent,
+}
+
+// A run: how many bytes of its input and of its text its two logs hold, and what ended it.
 pub struct Outcome {
-    pub heard: usize,
-    pub said: usize,
-    pub whole: bool,
+    pub input: usize,
+    pub text: usize,
+    pub end: End,
 }
 
-// Writes the first n bytes of `out`, and says whether the output is still open.
+// Writes the first n bytes of `out`, and says whether it could: to write nothing does not fail.
 fn write(out: &[u8], n: usize) -> bool
     requires { ⌜ n ≤ length (now out) ⌝ }
+    ensures { λ r. ⌜ (r ≡ false → 0 < n) ⌝ }
 {
+    if n == 0 {
+        return true;
+    }
     io::write_all(1, &out[..n])
 }
 
@@ -49,25 +60,26 @@ fn read(block: &mut [u8], size: usize) -> usize
     io::count(got, rest)
 }
 
-// Records bytes on a tape from place `at` on, as many as it has room for: the place reached.
-fn record(tape: &mut [u8], at: usize, bytes: &[u8]) -> usize
-    requires { ⌜ at ≤ length (now tape) ⌝ }
-    ensures { λ r. ⌜ Taped (now (tape .entry)) at (now (bytes .entry)) (now (tape .exit)) r ⌝ }
+// Records bytes in a log from place `at` on, as many as it has room for: the place reached.
+fn record(log: &mut [u8], at: usize, bytes: &[u8]) -> usize
+    requires { ⌜ at ≤ length (now log) ⌝ }
+    ensures { λ r. ⌜ Logged (now (log .entry)) at (now (bytes .entry)) (now (log .exit)) r ⌝ }
 {
     let mut i = 0;
     let mut to = at;
-    while to < tape.len() {
+    while to < log.len() {
         if i == bytes.len() {
             return to;
         }
-        tape[to] = bytes[i];
+        log[to] = bytes[i];
         i += 1;
         to += 1;
     }
     to
 }
 
-// The machine's turns, each recorded on the tape from place `said` on and written, until nothing is left to do or the output is closed.
+// The machine's turns, the text of each recorded in the log from place `text` on and written, until nothing is left to do or a write
+// fails.
 fn work(
     mut m: Machine,
     block: &mut [u8; BLOCK],
@@ -81,12 +93,12 @@ fn work(
     second_adjustments: &mut [u32; INTERVALS],
     rows: &mut [u32; NUMBERS],
     out: &mut [u8; OUT],
-    tape: &mut [u8],
-    mut said: usize,
+    log: &mut [u8],
+    mut text: usize,
 ) -> Done
     requires { ⌜ ReadyNow m block tops ends blocks adjustments «second_tops» «second_ends» «second_blocks» «second_adjustments» ⌝ }
-    requires { ⌜ said ≤ length (now tape) ⌝ }
-    ensures { λ r. ⌜ Works m block tops ends blocks adjustments «second_tops» «second_ends» «second_blocks» «second_adjustments» tape said r ⌝ }
+    requires { ⌜ text ≤ length (now log) ⌝ }
+    ensures { λ r. ⌜ Works m block tops ends blocks adjustments «second_tops» «second_ends» «second_blocks» «second_adjustments» log text r ⌝ }
 {
     loop {
         let after = turn(
@@ -104,30 +116,30 @@ fn work(
             out,
         );
         m = after.machine;
-        let text = &out[..];
-        said = record(tape, said, &text[..after.put]);
+        let bytes = &out[..];
+        text = record(log, text, &bytes[..after.put]);
         if !write(out, after.put) {
             return Done {
                 machine: m,
-                said,
-                more: true,
+                text,
+                closed: true,
             };
         }
         if !after.more {
             return Done {
                 machine: m,
-                said,
-                more: false,
+                text,
+                closed: false,
             };
         }
     }
 }
 
-// The whole input, block by block, until it ends or the output is closed. Nothing says that an input ends: the count of reads is
-// what falls.
+// The whole input, block by block, until it ends or a write fails. Nothing says that an input ends: the count of reads is what
+// falls.
 fn serve(
-    heard: &mut [u8],
-    said: &mut [u8],
+    input_log: &mut [u8],
+    text_log: &mut [u8],
     block: &mut [u8; BLOCK],
     tops: &mut [u32; BLOCKS],
     ends: &mut [u32; INTERVALS],
@@ -142,20 +154,17 @@ fn serve(
 ) -> Outcome
     requires { ⌜ roomShort (arraysNow tops ends blocks adjustments) ≡ false ⌝ }
     requires { ⌜ roomShort (arraysNow «second_tops» «second_ends» «second_blocks» «second_adjustments») ≡ false ⌝ }
-    ensures { λ r. ⌜ Runs heard said r ⌝ }
+    ensures { λ r. ⌜ Runs «input_log» «text_log» r ⌝ }
 {
     let mut m = start();
-    let mut outcome = Outcome {
-        heard: 0,
-        said: 0,
-        whole: false,
-    };
+    let mut input = 0;
+    let mut text = 0;
     let mut reads = 18_446_744_073_709_551_615u64;
     while 0 < reads {
         let size = m.size;
         let got = read(block, size);
         let bytes = &block[..];
-        outcome.heard = record(heard, outcome.heard, &bytes[size..size + got]);
+        input = record(input_log, input, &bytes[size..size + got]);
         m = receive(m, block, got);
         let done = work(
             m,
@@ -170,24 +179,38 @@ fn serve(
             second_adjustments,
             rows,
             out,
-            said,
-            outcome.said,
+            text_log,
+            text,
         );
-        outcome.said = done.said;
-        if done.more || got == 0 {
-            outcome.whole = !done.more;
-            return outcome;
+        text = done.text;
+        if done.closed {
+            return Outcome {
+                input,
+                text,
+                end: End::Closed,
+            };
+        }
+        if got == 0 {
+            return Outcome {
+                input,
+                text,
+                end: End::Whole,
+            };
         }
         m = done.machine;
         reads -= 1;
     }
-    outcome
+    Outcome {
+        input,
+        text,
+        end: End::Spent,
+    }
 }
 
-// The program, with its two whole tables. What it reads and what it writes is recorded on two tapes, as far as they reach, so that
+// The program, with its two whole tables. What it reads and what it writes is recorded in two logs, as far as they reach, so that
 // its promise can speak of it; the program itself lends none.
-pub fn run(heard: &mut [u8], said: &mut [u8]) -> Outcome
-    ensures { λ r. ⌜ Runs heard said r ⌝ }
+pub fn run(input_log: &mut [u8], text_log: &mut [u8]) -> Outcome
+    ensures { λ r. ⌜ Runs «input_log» «text_log» r ⌝ }
 {
     let mut block = [0; BLOCK];
     let mut tops = [0; BLOCKS];
@@ -201,8 +224,8 @@ pub fn run(heard: &mut [u8], said: &mut [u8]) -> Outcome
     let mut rows = [0; NUMBERS];
     let mut out = [0; OUT];
     serve(
-        heard,
-        said,
+        input_log,
+        text_log,
         &mut block,
         &mut tops,
         &mut ends,

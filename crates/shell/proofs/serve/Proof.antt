@@ -1,29 +1,39 @@
--- `shell::serve` meets its contract. The loop's invariant: the machine can go on and has nothing left to do, and what was read and put is
--- recorded. Assumes nothing.
+-- `shell::serve` meets its contract. The loop's invariant: the machine can go on and has nothing left to do, what was read and put is
+-- recorded, and every read so far has brought a byte. Assumes nothing.
 use Prim.Native.Nat.{ℕ, _-_, _<_}
-use mathlib.Core.Path.{_≡_, refl, sym, _∙_}
-use mathlib.Core.Bool.{false, true≢false}
-use mathlib.Core.Logic.{⊎-elim}
+use mathlib.Core.Path.{_∙_}
 use native.Mathlib.Omega.{arith}
 use Rattle.model.specs.Table.{arrays}
 use Rattle.console.specs.Rack.{rack}
 use Rattle.machine.specs.Machine.{stands, bytesOf, Rests, Ready}
-use Rattle.shell.proofs.Falling.{not-true, rests-read, ready-read}
-use Rattle.shell.proofs.Running.{Going, going-none, rests-idle, between, between-length, went-on, going-ran, going-on, going-ends, none, some}
-use Rattle.shell.proofs.Taping.{taped-length, taped-place}
+use Rattle.shell.proofs.Falling.{rests-read, ready-read}
+use Rattle.shell.proofs.Running.{Going, going-none, rests-idle, between, between-length, went-on, going-spent, going-on, going-whole, going-closed}
+use Rattle.shell.proofs.Logging.{logged-length, logged-place}
 use Rattle.shell.proofs.serve.Statement.{statement}
 use Rattle.shell.proofs.serve.Tie as tie
 
 abbrev Inv-loop : tie.InvT-loop
-Inv-loop h s block t e b a t₂ e₂ b₂ a₂ rows out m r reads h′ s′ block′ t′ e′ b′ a′ t₂′ e₂′ b₂′ a₂′ rows′ out′ m′ r′ reads′ =
-    Going h s h′ s′ (r′ .heard) (r′ .said)
+Inv-loop h s block t e b a t₂ e₂ b₂ a₂ rows out m i k reads h′ s′ block′ t′ e′ b′ a′ t₂′ e₂′ b₂′ a₂′ rows′ out′ m′ i′ k′ reads′ =
+    Going h s h′ s′ i′ k′ reads′
     (stands m′ (rack (m′ .state) (arrays t′ e′ b′ a′) (arrays t₂′ e₂′ b₂′ a₂′)) (bytesOf m′ block′))
-    × (r′ .whole ≡ false)
     × Ready m′ (rack (m′ .state) (arrays t′ e′ b′ a′) (arrays t₂′ e₂′ b₂′ a₂′)) block′
     × Rests m′ block′
 
 abbrev μ-loop : tie.MeasureT-loop
-μ-loop h s block t e b a t₂ e₂ b₂ a₂ rows out m r reads h′ s′ block′ t′ e′ b′ a′ t₂′ e₂′ b₂′ a₂′ rows′ out′ m′ r′ reads′ = reads′
+μ-loop h s block t e b a t₂ e₂ b₂ a₂ rows out m i k reads h′ s′ block′ t′ e′ b′ a′ t₂′ e₂′ b₂′ a₂′ rows′ out′ m′ i′ k′ reads′ = reads′
+
+-- the places of a turn of the loop: its beginning, and where the bytes are read, recorded and received
+abbrev received : tie.After-work Inv-loop μ-loop → tie.After-receive Inv-loop μ-loop
+received w = w .before .before .before .before .before .before .before .before .before .before .before .before .before
+
+abbrev recorded : tie.After-work Inv-loop μ-loop → tie.After-record Inv-loop μ-loop
+recorded w = received w .before .before .before .before
+
+abbrev reading : tie.After-work Inv-loop μ-loop → tie.After-read Inv-loop μ-loop
+reading w = recorded w .before .before .before .before .before
+
+abbrev turn : tie.After-work Inv-loop μ-loop → tie.At-loop Inv-loop μ-loop
+turn w = reading w .before .before .before
 
 -- one less of a number that is not 0
 one-less : (n : ℕ) → 0 < n → n - 1 < n
@@ -36,10 +46,10 @@ loop-holds : tie.Need-loop-holds Inv-loop μ-loop
 loop-holds c =
     let begins = c .start .ensures in
     let pre = c .before .before .before .pre in
-    (going-none _ _ _ (begins .stands _ _ _), refl, begins .ready _ _ _ (pre .0) (pre .1), begins .rests _)
+    (going-none _ _ _ _ (begins .stands _ _ _) (omega arith), begins .ready _ _ _ (pre .0) (pre .1), begins .rests _)
 
 read-requires : tie.Need-read-requires Inv-loop μ-loop
-read-requires c κs = omega (arith, c .before .before .loop .inv .3 .few)
+read-requires c κs = omega (arith, c .before .before .loop .inv .2 .few)
 
 add-record : tie.Need-add-record Inv-loop μ-loop
 add-record c = omega (arith, c .before .before .before .read .ensures .1)
@@ -54,95 +64,85 @@ part-record-end : tie.Need-part-record-end Inv-loop μ-loop
 part-record-end c = omega (arith, c .before .before .before .read .ensures .1)
 
 record-requires : tie.Need-record-requires Inv-loop μ-loop
-record-requires c κs = taped-place (c .before .before .before .before .before .before .before .loop .inv .0 .heard)
+record-requires c κs = logged-place (c .before .before .before .before .before .before .before .loop .inv .0 .inputLogged)
 
 receive-requires : tie.Need-receive-requires Inv-loop μ-loop
 receive-requires c κs =
     let inv = c .before .before .before .before .before .before .before .before .before .before .before .loop .inv in
     let read = c .before .before .before .before .before .before .before .before .read .ensures in
-    (rests-read (inv .3) (read .0), inv .2 .from, omega (arith, inv .3 .few), read .1)
+    (rests-read (inv .2) (read .0), inv .1 .from, omega (arith, inv .2 .few), read .1)
 
 work-requires : tie.Need-work-requires Inv-loop μ-loop
 work-requires c κs =
     let received = c .before .before .before .before .before .before .before .before .before .before .before .before in
     let inv = received .before .before .before .before .before .before .before .before .before .before .before .before .loop .inv in
-    (received .receive .ensures .ready _ _ (ready-read (inv .2) (omega (arith, inv .3 .few))), taped-place (inv .0 .said))
+    (received .receive .ensures .ready _ _ (ready-read (inv .1) (omega (arith, inv .2 .few))), logged-place (inv .0 .textLogged))
 
 same-length : tie.Need-same-length Inv-loop μ-loop
-same-length c =
-    let worked = c .before .before .before .before in
-    let received = worked .before .before .before .before .before .before .before .before .before .before .before .before .before in
-    let recorded = received .before .before .before .before in
-    let inv = recorded .before .before .before .before .before .before .before .before .loop .inv in
-    taped-length (recorded .record .ensures) ∙ taped-length (inv .0 .heard)
+same-length c = let w = c .before .before .before in
+    logged-length (recorded w .record .ensures) ∙ logged-length (turn w .loop .inv .0 .inputLogged)
 
 same-length-2 : tie.Need-same-length-2 Inv-loop μ-loop
-same-length-2 c =
-    let worked = c .before .before .before .before in
-    let received = worked .before .before .before .before .before .before .before .before .before .before .before .before .before in
-    let inv = received .before .before .before .before .before .before .before .before .before .before .before .before .loop .inv in
-    taped-length (worked .work .ensures .taped) ∙ taped-length (inv .0 .said)
+same-length-2 c = let w = c .before .before .before in
+    logged-length (w .work .ensures .logged) ∙ logged-length (turn w .loop .inv .0 .textLogged)
 
 returns : tie.Need-returns Inv-loop μ-loop
 returns c =
-    let worked = c .before .before .before .before in
-    let received = worked .before .before .before .before .before .before .before .before .before .before .before .before .before in
-    let recorded = received .before .before .before .before in
-    let read = recorded .before .before .before .before .before in
-    let head = read .before .before .before .loop in
-    let size = head .m .size in
-    let got = read .read .result in
-    let bytes = read .read .last .0 in
-    let goes = worked .work .ensures .goes in
-    going-ends (head .inv .0) (recorded .record .ensures) (worked .work .ensures .taped)
-    (went-on _ _ (received .receive .ensures .stands _ _) (between size got bytes) (read .read .ensures .0) goes)
-    (rests-idle _ (head .inv .3)) _
-    (λ e.
-    let none-left = not-true _ e in (
-      between-length size got bytes (read .read .ensures .1)
-          ∙ ⊎-elim (λ w. absurd (true≢false (sym (w .taken) ∙ none-left))) (λ w. none _ (w .1 .taken)) (c .before .if1 .came),
-      rests-idle _ (worked .work .ensures .rests none-left),
-    ))
+    let w = c .before .before .before in
+    let head = turn w .loop in
+    let read = reading w .read in
+    let bytes = between (head .m .size) (read .result) (read .last .0) in
+    let goes = went-on _ _ (received w .receive .ensures .stands _ _) bytes (read .ensures .0) (w .work .ensures .goes) in
+    going-closed (head .inv .0) (recorded w .record .ensures) (w .work .ensures .logged) goes (rests-idle _ (head .inv .2))
+    (w .work .ensures .tried (c .if1 .taken))
+
+same-length-3 : tie.Need-same-length-3 Inv-loop μ-loop
+same-length-3 c = let w = c .before .before .before .before in
+    logged-length (recorded w .record .ensures) ∙ logged-length (turn w .loop .inv .0 .inputLogged)
+
+same-length-4 : tie.Need-same-length-4 Inv-loop μ-loop
+same-length-4 c = let w = c .before .before .before .before in
+    logged-length (w .work .ensures .logged) ∙ logged-length (turn w .loop .inv .0 .textLogged)
+
+returns-2 : tie.Need-returns-2 Inv-loop μ-loop
+returns-2 c =
+    let w = c .before .before .before .before in
+    let head = turn w .loop in
+    let read = reading w .read in
+    let bytes = between (head .m .size) (read .result) (read .last .0) in
+    let goes = went-on _ _ (received w .receive .ensures .stands _ _) bytes (read .ensures .0) (w .work .ensures .goes) in
+    going-whole (head .inv .0) (recorded w .record .ensures) (w .work .ensures .logged) goes (rests-idle _ (head .inv .2))
+    (between-length (head .m .size) (read .result) (read .last .0) (read .ensures .1) ∙ c .if2 .taken)
+    (rests-idle _ (w .work .ensures .rests (c .before .if1 .left)))
 
 sub-reads : tie.Need-sub-reads Inv-loop μ-loop
-sub-reads c =
-    let worked = c .before .before .before .before .before in
-    let received = worked .before .before .before .before .before .before .before .before .before .before .before .before .before in
-    received .before .before .before .before .before .before .before .before .before .before .before .loop-test .taken
+sub-reads c = let w = c .before .before .before .before .before in reading w .before .before .loop-test .taken
 
 loop-less : tie.Need-loop-less Inv-loop μ-loop
-loop-less c =
-    let worked = c .before .before .before .before .before in
-    let received = worked .before .before .before .before .before .before .before .before .before .before .before .before .before in
-    one-less _ (received .before .before .before .before .before .before .before .before .before .before .before .loop-test .taken)
+loop-less c = let w = c .before .before .before .before .before in one-less _ (reading w .before .before .loop-test .taken)
 
 loop-again : tie.Need-loop-again Inv-loop μ-loop
 loop-again c =
-    let worked = c .before .before .before .before .before in
-    let received = worked .before .before .before .before .before .before .before .before .before .before .before .before .before in
-    let recorded = received .before .before .before .before in
-    let read = recorded .before .before .before .before .before in
-    let head = read .before .before .before .loop in
-    let size = head .m .size in
-    let got = read .read .result in
-    let bytes = read .read .last .0 in
-    let goes = worked .work .ensures .goes in (
-      going-on (head .inv .0) (recorded .record .ensures) (worked .work .ensures .taped)
-          (went-on _ _ (received .receive .ensures .stands _ _) (between size got bytes) (read .read .ensures .0) goes)
-          (omega (arith, between-length size got bytes (read .read .ensures .1), some got (c .before .if2 .left))),
-      head .inv .1,
-      worked .work .ensures .ready,
-      worked .work .ensures .rests (c .before .before .if1 .left),
+    let w = c .before .before .before .before .before in
+    let head = turn w .loop in
+    let read = reading w .read in
+    let bytes = between (head .m .size) (read .result) (read .last .0) in
+    let goes = went-on _ _ (received w .receive .ensures .stands _ _) bytes (read .ensures .0) (w .work .ensures .goes) in
+    let some = between-length (head .m .size) (read .result) (read .last .0) (read .ensures .1) in (
+      going-on (head .inv .0) (recorded w .record .ensures) (w .work .ensures .logged) goes (reading w .before .before .loop-test .taken)
+          (omega (arith, some, c .before .if2 .left)),
+      w .work .ensures .ready,
+      w .work .ensures .rests (c .before .before .if1 .left),
     )
 
-same-length-3 : tie.Need-same-length-3 Inv-loop μ-loop
-same-length-3 c = taped-length (c .before .loop .inv .0 .heard)
+same-length-5 : tie.Need-same-length-5 Inv-loop μ-loop
+same-length-5 c = logged-length (c .before .loop .inv .0 .inputLogged)
 
-same-length-4 : tie.Need-same-length-4 Inv-loop μ-loop
-same-length-4 c = taped-length (c .before .loop .inv .0 .said)
+same-length-6 : tie.Need-same-length-6 Inv-loop μ-loop
+same-length-6 c = logged-length (c .before .loop .inv .0 .textLogged)
 
-returns-2 : tie.Need-returns-2 Inv-loop μ-loop
-returns-2 c = rw (c .before .loop .inv .1) (going-ran (c .before .loop .inv .0))
+returns-3 : tie.Need-returns-3 Inv-loop μ-loop
+returns-3 c = going-spent (c .before .loop .inv .0) (omega (arith, c .loop-test .left))
 
 pub serve-spec : {M : Type 1} → statement M
 serve-spec =
@@ -163,9 +163,12 @@ serve-spec =
     same-length
     same-length-2
     returns
+    same-length-3
+    same-length-4
+    returns-2
     sub-reads
     loop-less
     loop-again
-    same-length-3
-    same-length-4
-    returns-2)
+    same-length-5
+    same-length-6
+    returns-3)

@@ -1,28 +1,27 @@
 -- `shell::work` meets its contract. The loop's invariant is the contract, with more to do; what falls is what is left to do. Assumes
 -- nothing.
 use mathlib.Core.Path.{sym, _∙_}
-use mathlib.Core.Bool.{true, false, true≢false}
+use mathlib.Core.Bool.{true, false, true≢false, false≢true}
 use lib.Seq.{length-take-le}
 use Rattle.model.specs.Table.{arrays}
 use Rattle.console.specs.Rack.{rack}
 use Rattle.machine.specs.Machine.{stands, bytesOf}
-use Rattle.shell.specs.Shell.{Worked}
 use Rattle.shell.proofs.Falling as falling
-use Rattle.shell.proofs.Taping.{taped-length, taped-place}
+use Rattle.shell.proofs.Logging.{logged-length, logged-place}
 use Rattle.shell.proofs.work.Statement.{statement}
 use Rattle.shell.proofs.work.Tie as tie
 
 abbrev Inv-loop : tie.InvT-loop
-Inv-loop m block t e b a t₂ e₂ b₂ a₂ rows out tape n m′ block′ t′ e′ b′ a′ t₂′ e₂′ b₂′ a₂′ rows′ out′ tape′ n′ =
-    Worked m (rack (m .state) (arrays t e b a) (arrays t₂ e₂ b₂ a₂)) block tape n (record { machine = m′; said = n′; more = true })
-    (rack (m′ .state) (arrays t′ e′ b′ a′) (arrays t₂′ e₂′ b₂′ a₂′)) block′ tape′
+Inv-loop m block t e b a t₂ e₂ b₂ a₂ rows out log n m′ block′ t′ e′ b′ a′ t₂′ e₂′ b₂′ a₂′ rows′ out′ log′ n′ =
+    falling.Working m (rack (m .state) (arrays t e b a) (arrays t₂ e₂ b₂ a₂)) block log n m′ n′
+    (rack (m′ .state) (arrays t′ e′ b′ a′) (arrays t₂′ e₂′ b₂′ a₂′)) block′ log′
 
 abbrev μ-loop : tie.MeasureT-loop
-μ-loop m block t e b a t₂ e₂ b₂ a₂ rows out tape n m′ block′ t′ e′ b′ a′ t₂′ e₂′ b₂′ a₂′ rows′ out′ tape′ n′ =
+μ-loop m block t e b a t₂ e₂ b₂ a₂ rows out log n m′ block′ t′ e′ b′ a′ t₂′ e₂′ b₂′ a₂′ rows′ out′ log′ n′ =
     falling.work (stands m′ (rack (m′ .state) (arrays t′ e′ b′ a′) (arrays t₂′ e₂′ b₂′ a₂′)) (bytesOf m′ block′))
 
 loop-holds : tie.Need-loop-holds Inv-loop μ-loop
-loop-holds c = falling.worked-none (c .before .pre .0) (c .before .pre .1)
+loop-holds c = falling.working-none (c .before .pre .0) (c .before .pre .1)
 
 turn-requires : tie.Need-turn-requires Inv-loop μ-loop
 turn-requires c κs = c .before .before .before .before .before .before .before .before .before .before .before .loop .inv .ready
@@ -33,7 +32,7 @@ slice-aggregate-record c = sym (length-take-le _ _ (c .before .before .before .b
 record-requires : tie.Need-record-requires Inv-loop μ-loop
 record-requires c κs =
     let turned = c .before .before .before .before .before in
-    taped-place (turned .before .before .before .before .before .before .before .before .before .before .before .before .loop .inv .taped)
+    logged-place (turned .before .before .before .before .before .before .before .before .before .before .before .before .loop .inv .logged)
 
 write-requires : tie.Need-write-requires Inv-loop μ-loop
 write-requires c κs = c .before .before .before .before .before .before .before .before .before .before .turn .ensures .room
@@ -43,28 +42,30 @@ same-length c =
     let recorded = c .before .before .before .before .before .before in
     let turned = recorded .before .before .before .before .before .before in
     let inv = turned .before .before .before .before .before .before .before .before .before .before .before .before .loop .inv in
-    taped-length (recorded .record .ensures) ∙ taped-length (inv .taped)
+    logged-length (recorded .record .ensures) ∙ logged-length (inv .logged)
 
 returns : tie.Need-returns Inv-loop μ-loop
 returns c =
     let recorded = c .before .before .before .before .before .before in
     let turned = recorded .before .before .before .before .before .before in
     let inv = turned .before .before .before .before .before .before .before .before .before .before .before .before .loop .inv in
-    falling.worked-then inv (turned .turn .ensures) (recorded .record .ensures) true (λ e. absurd (true≢false e))
+    falling.worked-done inv (turned .turn .ensures) (recorded .record .ensures) true (λ e. absurd (true≢false e))
+    (λ e. c .before .write .ensures (falling.not-true _ (c .if1 .taken)))
 
 same-length-2 : tie.Need-same-length-2 Inv-loop μ-loop
 same-length-2 c =
     let recorded = c .before .before .before .before .before .before .before .before in
     let turned = recorded .before .before .before .before .before .before in
     let inv = turned .before .before .before .before .before .before .before .before .before .before .before .before .loop .inv in
-    taped-length (recorded .record .ensures) ∙ taped-length (inv .taped)
+    logged-length (recorded .record .ensures) ∙ logged-length (inv .logged)
 
 returns-2 : tie.Need-returns-2 Inv-loop μ-loop
 returns-2 c =
     let recorded = c .before .before .before .before .before .before .before .before in
     let turned = recorded .before .before .before .before .before .before in
     let inv = turned .before .before .before .before .before .before .before .before .before .before .before .before .loop .inv in
-    falling.worked-then inv (turned .turn .ensures) (recorded .record .ensures) false (λ e. falling.not-true _ (c .if2 .taken))
+    falling.worked-done inv (turned .turn .ensures) (recorded .record .ensures) false (λ e. falling.not-true _ (c .if2 .taken))
+    (λ e. absurd (false≢true e))
 
 loop-less : tie.Need-loop-less Inv-loop μ-loop
 loop-less c =
@@ -76,7 +77,7 @@ loop-again c =
     let recorded = c .before .before .before .before .before .before .before .before in
     let turned = recorded .before .before .before .before .before .before in
     let inv = turned .before .before .before .before .before .before .before .before .before .before .before .before .loop .inv in
-    falling.worked-then inv (turned .turn .ensures) (recorded .record .ensures) true (λ e. absurd (true≢false e))
+    falling.working-then inv (turned .turn .ensures) (recorded .record .ensures)
 
 pub work-spec : {M : Type 1} → statement M
 work-spec =
