@@ -1,5 +1,5 @@
 -- Laws of turns, and of rows written in runs. Assumes nothing.
-use Prim.Native.Nat.{ℕ, _+_, _-_, _*_, _/_, _%_, _^_, _≤_, _<_}
+use Prim.Native.Nat.{ℕ, _+_, _-_, _*_, _/_, _%_, _^_, min, _≤_, _<_}
 use mathlib.Core.Path.{_≡_, refl, _∙_, ap, ap₂}
 use mathlib.Core.List.{List}
 use native.Mathlib.Nat.{le-mul-of-pos-right}
@@ -61,32 +61,32 @@ five-pairs : (bucket old new x : ℕ) → length (runRow bucket old new x) ≡ 5
 unfolding runRow pairRow
 five-pairs bucket old new x = refl
 
-module _ (old new bucket end : ℕ) where
+module _ {old new bucket end : ℕ} where
   -- one with equal numbers
   pub running-same
-      : (b at : ℕ) (rows₀ : List ℕ) {rows rows′ : List ℕ} {here here′ there there′ x x′ entry entry′ : ℕ}
+      : {b at : ℕ} {rows₀ rows rows′ : List ℕ} {here here′ there there′ x x′ entry entry′ : ℕ}
       → rows′ ≡ rows → here′ ≡ here → there′ ≡ there → x′ ≡ x → entry′ ≡ entry
       → Running old new bucket end b at rows₀ rows here there x entry
       → Running old new bucket end b at rows₀ rows′ here′ there′ x′ entry′
-  running-same b at rows₀ p q r s t h = rw (p, q, r, s, t) h
+  running-same p q r s t h = rw (p, q, r, s, t) h
 
-  module _ (b at : ℕ) (rows₀ : List ℕ) (low : bucket ≤ b) (fits : 5 * (at + (end - b)) ≤ length rows₀) where
+  module _ {b at : ℕ} {rows₀ : List ℕ} (low : bucket ≤ b) (fits : 5 * (at + (end - b)) ≤ length rows₀) where
     pub running-starts
-        : (here there : ℕ) → b ≤ end → here ≡ old + (b - bucket) → there ≡ new + (b - bucket)
+        : {here there : ℕ} → b ≤ end → here ≡ old + (b - bucket) → there ≡ new + (b - bucket)
         → Running old new bucket end b at rows₀ rows₀ here there b (5 * at)
-    running-starts here there l p q =
+    running-starts l p q =
         record {
           within = l;
           oldPair = p;
           newPair = q;
-          done = filled-starts (runRow bucket old new) (five-pairs bucket old new) b at rows₀;
+          done = filled-starts (five-pairs bucket old new) b at rows₀;
         }
 
     module _
-        (rows : List ℕ) (here there x entry : ℕ) (s : Running old new bucket end b at rows₀ rows here there x entry) where
+        {rows : List ℕ} {here there x entry : ℕ} (s : Running old new bucket end b at rows₀ rows here there x entry) where
       pub running-length : length rows ≡ length rows₀
       running-length =
-          filled-length (runRow bucket old new) (five-pairs bucket old new) b at rows₀ rows x entry (s .done)
+          filled-length (five-pairs bucket old new) (s .done)
           (omega (arith, s .within))
 
       -- there is room for n rows more
@@ -95,47 +95,49 @@ module _ (old new bucket end : ℕ) where
 
       -- the next row
       pub running-more
-          : (rows′ : List ℕ) → x < end → rows′ ≡ sets rows entry (pairRow x here there)
+          : {rows′ : List ℕ} → x < end → rows′ ≡ sets rows entry (pairRow x here there)
           → Running old new bucket end b at rows₀ rows′ (here + 1) (there + 1) (x + 1) (entry + 5)
       unfolding runRow
-      running-more rows′ l e =
+      running-more {rows′} l e =
           let after = s .done .after in
           record {
             within = omega arith;
             oldPair = omega (arith, s .oldPair);
             newPair = omega (arith, s .newPair);
             done =
-                filled-more (runRow bucket old new) (five-pairs bucket old new) b at rows₀ rows x entry (s .done) rows′ (omega arith)
+                filled-more (five-pairs bucket old new) (s .done) (omega arith)
                 (e ∙ ap₂ (λ p q. sets rows entry (pairRow x p q)) (s .oldPair) (s .newPair));
           }
 
     -- the next two
     pub running-two
-        : (rows rows′ rows″ : List ℕ) (here there x entry : ℕ) → Running old new bucket end b at rows₀ rows here there x entry
+        : {rows rows′ rows″ : List ℕ} {here there x entry : ℕ} → Running old new bucket end b at rows₀ rows here there x entry
         → x + 1 < end → rows′ ≡ sets rows entry (pairRow x here there)
         → rows″ ≡ sets rows′ (entry + 5) (pairRow (x + 1) (here + 1) (there + 1))
         → Running old new bucket end b at rows₀ rows″ (here + 2) (there + 2) (x + 2) (entry + 10)
-    running-two rows rows′ rows″ here there x entry s l e e′ =
-        running-same b at rows₀ refl (omega arith) (omega arith) (omega arith) (omega arith)
-        (running-more rows′ (here + 1) (there + 1) (x + 1) (entry + 5)
-        (running-more rows here there x entry s rows′ (omega arith) e)
-        rows″ l e′)
+    running-two s l e e′ =
+        running-same refl (omega arith) (omega arith) (omega arith) (omega arith) (running-more (running-more s (omega arith) e) l e′)
 
   -- up to bucket b, and from there to the end
   pub running-ends
-      : (at b : ℕ) (rows₀ rows₁ rows : List ℕ) (here₁ there₁ entry₁ here there x entry : ℕ)
+      : {at b : ℕ} {rows₀ rows₁ rows : List ℕ} {here₁ there₁ entry₁ here there x entry : ℕ}
       → Running old new bucket end bucket at rows₀ rows₁ here₁ there₁ b entry₁
       → Running old new bucket end b (at + (b - bucket)) rows₁ rows here there x entry
       → end ≤ x → 5 * (at + (end - bucket)) ≤ length rows₀
       → rows ≡ withRows at (from (runRow bucket old new) bucket (end - bucket)) rows₀
-  running-ends at b rows₀ rows₁ rows here₁ there₁ entry₁ here there x entry r s l fits =
-      let last : b + (x - b) ≡ end = omega (arith, s .within, s .done .after) in
-      filled-ends (runRow bucket old new) (five-pairs bucket old new) bucket at rows₀ rows (b + (x - b)) _
-      (filled-run (runRow bucket old new) (five-pairs bucket old new) bucket at rows₀ rows₁ b entry₁ (r .done) (x - b) (at + (b - bucket))
-      rows (omega (arith, r .within)) (r .done .entries) (s .done .filled))
-      end last
+  running-ends r s l fits =
+      filled-ends (five-pairs bucket old new)
+      (filled-run (five-pairs bucket old new) (r .done) _ _ (omega (arith, r .within)) (r .done .entries) (s .done .filled))
+      end
+      (omega (arith, s .within, s .done .after))
 
 -- A SPAN, RUN BY RUN
+
+-- a run ends with the first of three
+pub run-few
+    : {left here there low run : ℕ} → low ≡ min here there → run ≡ min left low → 0 < left → 1 ≤ here → 1 ≤ there
+    → (1 ≤ run) × (run ≤ left) × (run ≤ here) × (run ≤ there)
+run-few e e′ l h h′ = omega arith
 
 -- the turns of a placing's buckets
 module _ (p : Placing) (b x : ℕ) (t : Turn) (h : Places p b) (l : b ≤ x) where
@@ -170,27 +172,27 @@ pub record Turning
   pub done : Filled (placedRow old new) bucket at rows₀ rows x (5 * row)
 
 module _
-    (old new : Placing) (bucket end at : ℕ) (rows₀ : List ℕ) (o : Places old bucket) (n : Places new bucket)
+    {old new : Placing} {bucket end at : ℕ} {rows₀ : List ℕ} (o : Places old bucket) (n : Places new bucket)
     (fits : 5 * (at + (end - bucket)) ≤ length rows₀) where
   pub turning-starts
-      : (s s′ : Slot) (here there : Turn) → bucket ≤ end → Slotted (old .first) (old .bins) (bucket - old .adjustment) s
+      : {s s′ : Slot} {here there : Turn} → bucket ≤ end → Slotted (old .first) (old .bins) (bucket - old .adjustment) s
       → Slotted (new .first) (new .bins) (bucket - new .adjustment) s′
       → here ≡ turn (s .bin + s .position * 2 ^ 32) (old .first + old .bins - s .bin)
       → there ≡ turn (s′ .bin + s′ .position * 2 ^ 32) (new .first + new .bins - s′ .bin)
       → Turning old new bucket end at rows₀ rows₀ here there bucket (end - bucket) at
-  turning-starts s s′ here there le h h′ e e′ =
+  turning-starts {s} {s′} le h h′ e e′ =
       record {
         ends = omega arith;
         oldTurn = rw e (turned-slot (old .first) (old .bins) (bucket - old .adjustment) s h);
         newTurn = rw e′ (turned-slot (new .first) (new .bins) (bucket - new .adjustment) s′ h′);
-        done = filled-starts (placedRow old new) (five-numbers old new) bucket at rows₀;
+        done = filled-starts (five-numbers old new) bucket at rows₀;
       }
 
   module _
-      (rows : List ℕ) (here there : Turn) (x left row : ℕ) (s : Turning old new bucket end at rows₀ rows here there x left row) where
+      {rows : List ℕ} {here there : Turn} {x left row : ℕ} (s : Turning old new bucket end at rows₀ rows here there x left row) where
     pub turning-length : length rows ≡ length rows₀
     turning-length =
-        filled-length (placedRow old new) (five-numbers old new) bucket at rows₀ rows x (5 * row) (s .done) (omega (arith, s .ends))
+        filled-length (five-numbers old new) (s .done) (omega (arith, s .ends))
 
     -- there is room for a run
     pub turning-room : (k : ℕ) → k ≤ left → (5 * (row + k) ≤ length rows) × (5 * (row + k) ≤ length rows₀)
@@ -207,12 +209,12 @@ module _
 
     -- the next run
     pub turning-more
-        : (k : ℕ) (rows′ : List ℕ) (here′ there′ : Turn) → k ≤ left → k ≤ here .left → k ≤ there .left
+        : {k : ℕ} {rows′ : List ℕ} {here′ there′ : Turn} → k ≤ left → k ≤ here .left → k ≤ there .left
         → rows′ ≡ withRows row (from (runRow x (here .place) (there .place)) x k) rows
         → Runs (old .bins) k here here′ → Runs (new .bins) k there there′
         → Turning old new bucket end at rows₀ rows′ here′ there′ (x + k) (left - k) (row + k)
     unfolding runRow pairRow
-    turning-more k rows′ here′ there′ l l′ l″ e r r′ =
+    turning-more {k} {rows′} {here′} {there′} l l′ l″ e r r′ =
         let after = s .done .after in
         let same : from (runRow x (here .place) (there .place)) x k ≡ from (placedRow old new) x k =
         from-ext (runRow x (here .place) (there .place)) (placedRow old new) x k
@@ -225,13 +227,11 @@ module _
           oldTurn = placed-turn old bucket x here o after k here′ (s .oldTurn) r;
           newTurn = placed-turn new bucket x there n after k there′ (s .newTurn) r′;
           done =
-              filled-run (placedRow old new) (five-numbers old new) bucket at rows₀ rows x (5 * row) (s .done) k row rows′
-              (omega (arith, s .ends))
-              refl
+              filled-run (five-numbers old new) (s .done) k row (omega (arith, s .ends)) refl
               (e ∙ ap (λ l. withRows row l rows) same);
         }
 
     -- after the last
     pub turning-ends : left ≡ 0 → rows ≡ withRows at (from (placedRow old new) bucket (end - bucket)) rows₀
     turning-ends none =
-        filled-ends (placedRow old new) (five-numbers old new) bucket at rows₀ rows x (5 * row) (s .done) end (omega (arith, s .ends))
+        filled-ends (five-numbers old new) (s .done) end (omega (arith, s .ends))

@@ -263,14 +263,14 @@ pub record Filled (f : ℕ → List ℕ) (b at : ℕ) (rows₀ rows : List ℕ) 
   pub entries : entry ≡ 5 * (at + (x - b))
   pub filled : rows ≡ withRows at (from f b (x - b)) rows₀
 
-module _ (f : ℕ → List ℕ) (five : (x : ℕ) → length (f x) ≡ 5) (b at : ℕ) (rows₀ : List ℕ) where
-  pub filled-starts : Filled f b at rows₀ rows₀ b (5 * at)
+module _ {f : ℕ → List ℕ} (five : (x : ℕ) → length (f x) ≡ 5) where
+  pub filled-starts : (b at : ℕ) (rows₀ : List ℕ) → Filled f b at rows₀ rows₀ b (5 * at)
   unfolding from
-  filled-starts =
+  filled-starts b at rows₀ =
       let none : b - b ≡ 0 = omega arith in
       record { after = omega arith; entries = omega arith; filled = sym (rw none (with-none at rows₀)) }
 
-  module _ (rows : List ℕ) (x entry : ℕ) (s : Filled f b at rows₀ rows x entry) where
+  module _ {b at : ℕ} {rows₀ rows : List ℕ} {x entry : ℕ} (s : Filled f b at rows₀ rows x entry) where
     pub filled-length : 5 * (at + (x - b)) ≤ length rows₀ → length rows ≡ length rows₀
     filled-length fits =
         let count = length-from f b (x - b) in
@@ -278,10 +278,10 @@ module _ (f : ℕ → List ℕ) (five : (x : ℕ) → length (f x) ≡ 5) (b at 
 
     -- n rows more
     pub filled-run
-        : (n j : ℕ) (rows′ : List ℕ) → 5 * (at + (x - b)) ≤ length rows₀ → entry ≡ 5 * j
+        : {rows′ : List ℕ} (n j : ℕ) → 5 * (at + (x - b)) ≤ length rows₀ → entry ≡ 5 * j
         → rows′ ≡ withRows j (from f x n) rows
         → Filled f b at rows₀ rows′ (x + n) (5 * (j + n))
-    filled-run n j rows′ fits here e =
+    filled-run n j fits here e =
         let count = length-from f b (x - b) in
         let row : j ≡ at + (x - b) = omega (arith, s .entries) in
         let this : x ≡ b + (x - b) = omega (arith, s .after) in
@@ -301,15 +301,15 @@ module _ (f : ℕ → List ℕ) (five : (x : ℕ) → length (f x) ≡ 5) (b at 
 
     -- one row more
     pub filled-more
-        : (rows′ : List ℕ) → 5 * (at + (x - b) + 1) ≤ length rows₀ → rows′ ≡ sets rows entry (f x)
+        : {rows′ : List ℕ} → 5 * (at + (x - b) + 1) ≤ length rows₀ → rows′ ≡ sets rows entry (f x)
         → Filled f b at rows₀ rows′ (x + 1) (entry + 5)
     unfolding from
-    filled-more rows′ fits e =
+    filled-more fits e =
         let same = filled-length (omega arith) in
         let j = at + (x - b) in
         let next : 5 * (j + 1) ≡ entry + 5 = omega (arith, s .entries) in
         rw next at
-        (filled-run 1 j rows′ (omega arith) (s .entries)
+        (filled-run 1 j (omega arith) (s .entries)
         (e ∙ ap (λ i. sets rows i (f x)) (s .entries) ∙ with-one j (f x) rows (five x) (omega arith)))
 
     -- after the last
@@ -330,24 +330,24 @@ pub five-numbers : (old new : Placing) (x : ℕ) → length (placedRow old new x
 unfolding placedRow
 five-numbers old new x = refl
 
-module _ (old new : Placing) (bucket end at : ℕ) (rows₀ : List ℕ) (fits : 5 * (at + (end - bucket)) ≤ length rows₀) where
+module _ {old new : Placing} {bucket end at : ℕ} {rows₀ : List ℕ} (fits : 5 * (at + (end - bucket)) ≤ length rows₀) where
   pub spanning-starts
-      : (here there : Slot) → bucket ≤ end → Slotted (old .first) (old .bins) (bucket - old .adjustment) here
+      : {here there : Slot} → bucket ≤ end → Slotted (old .first) (old .bins) (bucket - old .adjustment) here
       → Slotted (new .first) (new .bins) (bucket - new .adjustment) there
       → Spanning old new bucket end at rows₀ rows₀ here there bucket (5 * at)
-  spanning-starts here there le h h′ =
+  spanning-starts le h h′ =
       record {
         within = le;
         oldSlot = h;
         newSlot = h′;
-        done = filled-starts (placedRow old new) (five-numbers old new) bucket at rows₀;
+        done = filled-starts (five-numbers old new) bucket at rows₀;
       }
 
   module _
-      (rows : List ℕ) (here there : Slot) (x entry : ℕ) (s : Spanning old new bucket end at rows₀ rows here there x entry) where
+      {rows : List ℕ} {here there : Slot} {x entry : ℕ} (s : Spanning old new bucket end at rows₀ rows here there x entry) where
     pub spanning-length : length rows ≡ length rows₀
     spanning-length =
-        filled-length (placedRow old new) (five-numbers old new) bucket at rows₀ rows x entry (s .done) (omega (arith, s .within))
+        filled-length (five-numbers old new) (s .done) (omega (arith, s .within))
 
     -- there is room for the next row
     pub spanning-room : x < end → (entry + 5 ≤ length rows) × (entry + 5 ≤ length rows₀)
@@ -355,11 +355,11 @@ module _ (old new : Placing) (bucket end at : ℕ) (rows₀ : List ℕ) (fits : 
 
     -- the next row
     pub spanning-more
-        : (rows′ : List ℕ) (here′ there′ : Slot) → x < end → Places old bucket → Places new bucket
+        : {rows′ : List ℕ} {here′ there′ : Slot} → x < end → Places old bucket → Places new bucket
         → rows′ ≡ sets rows entry (x ∷ here .bin ∷ here .position ∷ there .bin ∷ there .position ∷ [])
         → Steps (old .first) (old .first + old .bins - 1) here here′ → Steps (new .first) (new .first + new .bins - 1) there there′
         → Spanning old new bucket end at rows₀ rows′ here′ there′ (x + 1) (entry + 5)
-    spanning-more rows′ here′ there′ l o n e h h′ =
+    spanning-more {rows′} {here′} {there′} l o n e h h′ =
         let after = s .done .after in
         record {
           within = omega arith;
@@ -368,11 +368,11 @@ module _ (old new : Placing) (bucket end at : ℕ) (rows₀ : List ℕ) (fits : 
           newSlot =
               slot-stepped (new .first) (new .bins) x (new .adjustment) there there′ (n .some) (omega (arith, n .ranked)) (s .newSlot) h′;
           done =
-              filled-more (placedRow old new) (five-numbers old new) bucket at rows₀ rows x entry (s .done) rows′ (omega arith)
+              filled-more (five-numbers old new) (s .done) (omega arith)
               (e ∙ ap (sets rows entry) (row-slots old new x here there (s .oldSlot) (s .newSlot)));
         }
 
     -- after the last
     pub spanning-ends : end ≤ x → rows ≡ withRows at (from (placedRow old new) bucket (end - bucket)) rows₀
     spanning-ends l =
-        filled-ends (placedRow old new) (five-numbers old new) bucket at rows₀ rows x entry (s .done) end (omega (arith, s .within))
+        filled-ends (five-numbers old new) (s .done) end (omega (arith, s .within))

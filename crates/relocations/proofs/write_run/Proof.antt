@@ -34,34 +34,13 @@ begun c =
     let s = start c in
     let a = s .args in
     let fits : 5 * (a .at + (end c - a .bucket)) ≤ length (a .rows .now) = omega (arith, s .pre .1) in
-    let first =
-    running-starts (a .old) (a .new) (a .bucket) (end c) (a .bucket) (a .at) (a .rows .now) (omega arith) fits (a .old) (a .new)
-    (omega arith)
-    (omega arith)
-    (omega arith) in
+    let first
+    : Running (a .old) (a .new) (a .bucket) (end c) (a .bucket) (a .at) (a .rows .now) (a .rows .now) (a .old) (a .new) (a .bucket)
+    (5 * a .at) =
+    running-starts (omega arith) fits (omega arith) (omega arith) (omega arith) in
     ⊎-elim
-    (λ w.
-    running-same (a .old) (a .new) (a .bucket) (end c) (a .bucket) (a .at) (a .rows .now)
-    (w .5)
-    (w .7)
-    (w .8)
-    (w .6)
-    (w .9)
-    (running-more (a .old) (a .new) (a .bucket) (end c) (a .bucket) (a .at) (a .rows .now) (omega arith) fits (a .rows .now) (a .old) (a .new)
-    (a .bucket)
-    (5 * a .at)
-    first
-    (w .2 .last .0)
-    (omega (arith, w .0 .taken))
-    (w .2 .ensures)))
-    (λ w.
-    running-same (a .old) (a .new) (a .bucket) (end c) (a .bucket) (a .at) (a .rows .now)
-    (w .1)
-    (w .3)
-    (w .4)
-    (w .2)
-    (w .5)
-    first)
+    (λ w. running-same (w .5) (w .7) (w .8) (w .6) (w .9) (running-more (omega arith) fits first (omega (arith, w .0 .taken)) (w .2 .ensures)))
+    (λ w. running-same (w .1) (w .3) (w .4) (w .2) (w .5) first)
     (c .if1 .came)
 
 even : (c : tie.Joined1 Inv-loop μ-loop) → (end c - c .if1 .x) % 2 ≡ 0
@@ -71,15 +50,7 @@ low : (c : tie.Joined1 Inv-loop μ-loop) → start c .args .bucket ≤ c .if1 .x
 low c = begun c .done .after
 
 same : (c : tie.Joined1 Inv-loop μ-loop) → length (c .if1 .rows) ≡ length (start c .args .rows .now)
-same c =
-    let a = start c .args in
-    running-length (a .old) (a .new) (a .bucket) (end c) (a .bucket) (a .at) (a .rows .now) (omega arith) (omega (arith, start c .pre .1))
-    (c .if1 .rows)
-    (c .if1 .here)
-    (c .if1 .there)
-    (c .if1 .x)
-    (c .if1 .entry)
-    (begun c)
+same c = running-length (omega arith) (omega (arith, start c .pre .1)) (begun c)
 
 fits
     : (c : tie.Joined1 Inv-loop μ-loop) → let a = start c .args in
@@ -95,20 +66,7 @@ module _ (c : tie.In-loop Inv-loop μ-loop) where
   two = omega (arith, c .loop-test .taken, c .before .loop .inv .0 .within, c .before .loop .inv .1)
 
   room : (c .before .loop .entry + 5 * 2 ≤ length (c .before .loop .rows)) × (c .before .loop .entry + 5 * 2 ≤ length (joined .if1 .rows))
-  room =
-      let a = start joined .args in
-      let n = c .before .loop in
-      running-room (a .old) (a .new) (a .bucket) (end joined) (joined .if1 .x) (a .at + (joined .if1 .x - a .bucket)) (joined .if1 .rows)
-      (low joined)
-      (fits joined)
-      (n .rows)
-      (n .here)
-      (n .there)
-      (n .x)
-      (n .entry)
-      (n .inv .0)
-      2
-      two
+  room = running-room (low joined) (fits joined) (c .before .loop .inv .0) 2 two
 
   entries : c .before .loop .entry + 10 ≤ length (start joined .args .rows .now)
   entries = omega (arith, room .1, same joined)
@@ -140,22 +98,11 @@ add-entry : tie.Need-add-entry Inv-loop μ-loop
 add-entry c = omega arith
 
 loop-holds : tie.Need-loop-holds Inv-loop μ-loop
-loop-holds c =
-    let a = start c .args in (
-      running-same (a .old) (a .new) (a .bucket) (end c) (c .if1 .x) (a .at + (c .if1 .x - a .bucket)) (c .if1 .rows)
-          refl
-          refl
-          refl
-          refl
-          (begun c .done .entries)
-          (running-starts (a .old) (a .new) (a .bucket) (end c) (c .if1 .x) (a .at + (c .if1 .x - a .bucket)) (c .if1 .rows) (low c) (fits c)
-          (c .if1 .here)
-          (c .if1 .there)
-          (begun c .within)
-          (begun c .oldPair)
-          (begun c .newPair)),
-      even c,
-    )
+loop-holds c = (
+  running-same refl refl refl refl (begun c .done .entries)
+      (running-starts (low c) (fits c) (begun c .within) (begun c .oldPair) (begun c .newPair)),
+  even c,
+)
 
 write-places-requires-2 : tie.Need-write-places-requires-2 Inv-loop μ-loop
 write-places-requires-2 c κs = omega (arith, room (c .before) .0)
@@ -175,31 +122,9 @@ add-write-places-4 c = omega (arith, pairs (c .before .before .before .before .b
 write-places-requires-3 : tie.Need-write-places-requires-3 Inv-loop μ-loop
 write-places-requires-3 c κs =
     let t = c .before .before .before .before .before .before .before .before .before in
-    let a = start (joined t) .args in
-    let n = t .before .loop in
-    let one =
-    running-more (a .old) (a .new) (a .bucket) (end (joined t)) (joined t .if1 .x) (a .at + (joined t .if1 .x - a .bucket)) (joined t .if1 .rows)
-    (low (joined t))
-    (fits (joined t))
-    (n .rows)
-    (n .here)
-    (n .there)
-    (n .x)
-    (n .entry)
-    (n .inv .0)
-    (c .before .before .before .before .before .before .before .write-places2 .last .0)
-    (omega (arith, two t))
-    (c .before .before .before .before .before .before .before .write-places2 .ensures) in
-    running-room (a .old) (a .new) (a .bucket) (end (joined t)) (joined t .if1 .x) (a .at + (joined t .if1 .x - a .bucket)) (joined t .if1 .rows)
-    (low (joined t))
-    (fits (joined t))
-    (c .before .before .before .before .before .before .before .write-places2 .last .0)
-    (n .here + 1)
-    (n .there + 1)
-    (n .x + 1)
-    (n .entry + 5)
-    one
-    1
+    let j = joined t in
+    let first = c .before .before .before .before .before .before .before .write-places2 .ensures in
+    running-room (low j) (fits j) (running-more (low j) (fits j) (t .before .loop .inv .0) (omega (arith, two t)) first) 1
     (omega (arith, two t))
     .0
 
@@ -221,55 +146,23 @@ loop-less c = omega (arith, two (c .before .before .before .before .before .befo
 loop-again : tie.Need-loop-again Inv-loop μ-loop
 loop-again c =
     let t = c .before .before .before .before .before .before .before .before .before .before .before .before in
-    let a = start (joined t) .args in
-    let n = t .before .loop in (
-      running-two (a .old) (a .new) (a .bucket) (end (joined t)) (joined t .if1 .x) (a .at + (joined t .if1 .x - a .bucket)) (joined t .if1 .rows)
-          (low (joined t))
-          (fits (joined t))
-          (n .rows)
-          (c .before .before .before .before .before .before .before .before .before .before .write-places2 .last .0)
-          (c .before .before .write-places3 .last .0)
-          (n .here)
-          (n .there)
-          (n .x)
-          (n .entry)
-          (n .inv .0)
-          (omega (arith, two t))
-          (c .before .before .before .before .before .before .before .before .before .before .write-places2 .ensures)
-          (c .before .before .write-places3 .ensures),
-      omega (arith, two t, n .inv .1),
+    let s = t .before .loop .inv in
+    let first = c .before .before .before .before .before .before .before .before .before .before .write-places2 .ensures in (
+      running-two (low (joined t)) (fits (joined t)) (s .0) (omega (arith, two t)) first (c .before .before .write-places3 .ensures),
+      omega (arith, two t, s .1),
     )
 
 same-length : tie.Need-same-length Inv-loop μ-loop
 same-length c =
-    let n = c .before .loop in
     let j = c .before .before in
-    let a = start j .args in
-    running-length (a .old) (a .new) (a .bucket) (end j) (j .if1 .x) (a .at + (j .if1 .x - a .bucket)) (j .if1 .rows) (low j) (fits j)
-    (n .rows)
-    (n .here)
-    (n .there)
-    (n .x)
-    (n .entry)
-    (n .inv .0)
-    ∙ same j
+    running-length (low j) (fits j) (c .before .loop .inv .0) ∙ same j
 
 returns : tie.Need-returns Inv-loop μ-loop
 returns c =
-    let n = c .before .loop in
     let j = c .before .before in
     let a = start j .args in
     let all : end j - a .bucket ≡ a .count = omega arith in
-    running-ends (a .old) (a .new) (a .bucket) (end j) (a .at) (j .if1 .x) (a .rows .now) (j .if1 .rows) (n .rows) (j .if1 .here) (j .if1 .there)
-    (j .if1 .entry)
-    (n .here)
-    (n .there)
-    (n .x)
-    (n .entry)
-    (begun j)
-    (n .inv .0)
-    (c .loop-test .left)
-    (omega (arith, start j .pre .1))
+    running-ends (begun j) (c .before .loop .inv .0) (c .loop-test .left) (omega (arith, start j .pre .1))
     ∙ ap (λ m. withRows (a .at) (from (runRow (a .bucket) (a .old) (a .new)) (a .bucket) m) (a .rows .now)) all
 
 pub write-run-spec : {M : Type 1} → statement M

@@ -3,7 +3,7 @@ use Prim.Native.Nat.{_+_, _*_, _^_, _≤_, _<_}
 use native.Mathlib.Omega.{arith}
 use lib.ListN.{length}
 use borrow.Author.Needs.{needs}
-use Rattle.relocations.proofs.Runs.{Turning, turning-starts, turning-length, turning-room, turning-fits, turning-more, turning-ends}
+use Rattle.relocations.proofs.Runs.{run-few, Turning, turning-starts, turning-length, turning-room, turning-fits, turning-more, turning-ends}
 use Rattle.relocations.proofs.write_runs.Statement.{statement}
 use Rattle.relocations.proofs.write_runs.Tie as tie
 
@@ -28,44 +28,21 @@ module _ (c : tie.After-smaller2 Inv-loop μ-loop) where
       × (c .smaller2 .result ≤ turn .loop .there .left)
   few =
       let s = turn .loop .inv in
-      omega (arith, c .smaller2 .ensures, c .before .smaller .ensures, s .oldTurn .some, s .newTurn .some, c .before .before .loop-test .taken)
+      run-few (c .before .smaller .ensures) (c .smaller2 .ensures) (c .before .before .loop-test .taken) (s .oldTurn .some) (s .newTurn .some)
 
   room
       : (5 * (turn .loop .row + c .smaller2 .result) ≤ length (turn .loop .rows))
       × (5 * (turn .loop .row + c .smaller2 .result) ≤ length (start turn .args .rows .now))
   room =
       let s = start turn in
-      let n = turn .loop in
-      turning-room (s .args .old) (s .args .new) (s .args .bucket) (s .args .end) (s .args .at) (s .args .rows .now) (s .pre .0 .0) (s .pre .0 .1)
-      (s .pre .1 .1 .1 .1)
-      (n .rows)
-      (n .here)
-      (n .there)
-      (n .x)
-      (n .left)
-      (n .row)
-      (n .inv)
-      (c .smaller2 .result)
-      (few .1)
+      turning-room (s .pre .0 .0) (s .pre .0 .1) (s .pre .1 .1 .1 .1) (turn .loop .inv) (c .smaller2 .result) (few .1)
 
   fits
       : (turn .loop .here .place + c .smaller2 .result + 2 ^ 32 < 2 ^ 64)
       × (turn .loop .there .place + c .smaller2 .result + 2 ^ 32 < 2 ^ 64)
   fits =
       let s = start turn in
-      let n = turn .loop in
-      turning-fits (s .args .old) (s .args .new) (s .args .bucket) (s .args .end) (s .args .at) (s .args .rows .now) (s .pre .0 .0) (s .pre .0 .1)
-      (s .pre .1 .1 .1 .1)
-      (n .rows)
-      (n .here)
-      (n .there)
-      (n .x)
-      (n .left)
-      (n .row)
-      (n .inv)
-      (c .smaller2 .result)
-      (few .2)
-      (few .3)
+      turning-fits (s .pre .0 .0) (s .pre .0 .1) (s .pre .1 .1 .1 .1) (turn .loop .inv) (c .smaller2 .result) (few .2) (few .3)
       (c .before .before .loop-test .taken)
       (s .fits .end .fits)
 
@@ -81,15 +58,7 @@ sub-left c = omega arith
 loop-holds : tie.Need-loop-holds Inv-loop μ-loop
 loop-holds c =
     let s = c .before .before .before in
-    turning-starts (s .args .old) (s .args .new) (s .args .bucket) (s .args .end) (s .args .at) (s .args .rows .now) (s .pre .0 .0) (s .pre .0 .1)
-    (s .pre .1 .1 .1 .1)
-    (s .args .old-slot)
-    (s .args .new-slot)
-    (c .before .turn-of .result)
-    (c .turn-of2 .result)
-    (s .pre .1 .1 .1 .0)
-    (s .pre .1 .0)
-    (s .pre .1 .1 .0)
+    turning-starts (s .pre .0 .0) (s .pre .0 .1) (s .pre .1 .1 .1 .1) (s .pre .1 .1 .1 .0) (s .pre .1 .0) (s .pre .1 .1 .0)
     (c .before .turn-of .ensures)
     (c .turn-of2 .ensures)
 
@@ -111,10 +80,14 @@ write-run-requires c κs =
     )
 
 after-run-requires : tie.Need-after-run-requires Inv-loop μ-loop
-after-run-requires c κs = (few (c .before .before .before .before) .2, fits (c .before .before .before .before) .0)
+after-run-requires c κs =
+    let d = c .before .before .before .before in
+    (few d .2, fits d .0)
 
 after-run-requires-2 : tie.Need-after-run-requires-2 Inv-loop μ-loop
-after-run-requires-2 c κs = (few (c .before .before .before .before .before) .3, fits (c .before .before .before .before .before) .1)
+after-run-requires-2 c κs =
+    let d = c .before .before .before .before .before in
+    (few d .3, fits d .1)
 
 add-x : tie.Need-add-x Inv-loop μ-loop
 add-x c =
@@ -141,23 +114,7 @@ loop-again : tie.Need-loop-again Inv-loop μ-loop
 loop-again c =
     let d = c .before .before .before .before .before .before in
     let s = start (turn d) in
-    let n = turn d .loop in
-    turning-more (s .args .old) (s .args .new) (s .args .bucket) (s .args .end) (s .args .at) (s .args .rows .now) (s .pre .0 .0) (s .pre .0 .1)
-    (s .pre .1 .1 .1 .1)
-    (n .rows)
-    (n .here)
-    (n .there)
-    (n .x)
-    (n .left)
-    (n .row)
-    (n .inv)
-    (d .smaller2 .result)
-    (c .before .before .before .before .write-run .last .1 .1 .1 .1 .1 .0)
-    (c .before .after-run .result)
-    (c .after-run2 .result)
-    (few d .1)
-    (few d .2)
-    (few d .3)
+    turning-more (s .pre .0 .0) (s .pre .0 .1) (s .pre .1 .1 .1 .1) (turn d .loop .inv) (few d .1) (few d .2) (few d .3)
     (c .before .before .before .before .write-run .ensures)
     (c .before .after-run .ensures)
     (c .after-run2 .ensures)
@@ -165,31 +122,12 @@ loop-again c =
 same-length : tie.Need-same-length Inv-loop μ-loop
 same-length c =
     let s = start (c .before) in
-    let n = c .before .loop in
-    turning-length (s .args .old) (s .args .new) (s .args .bucket) (s .args .end) (s .args .at) (s .args .rows .now) (s .pre .0 .0) (s .pre .0 .1)
-    (s .pre .1 .1 .1 .1)
-    (n .rows)
-    (n .here)
-    (n .there)
-    (n .x)
-    (n .left)
-    (n .row)
-    (n .inv)
+    turning-length (s .pre .0 .0) (s .pre .0 .1) (s .pre .1 .1 .1 .1) (c .before .loop .inv)
 
 returns : tie.Need-returns Inv-loop μ-loop
 returns c =
     let s = start (c .before) in
-    let n = c .before .loop in
-    turning-ends (s .args .old) (s .args .new) (s .args .bucket) (s .args .end) (s .args .at) (s .args .rows .now) (s .pre .0 .0) (s .pre .0 .1)
-    (s .pre .1 .1 .1 .1)
-    (n .rows)
-    (n .here)
-    (n .there)
-    (n .x)
-    (n .left)
-    (n .row)
-    (n .inv)
-    (omega (arith, c .loop-test .left))
+    turning-ends (s .pre .0 .0) (s .pre .0 .1) (s .pre .1 .1 .1 .1) (c .before .loop .inv) (omega (arith, c .loop-test .left))
 
 pub write-runs-spec : {M : Type 1} → statement M
 write-runs-spec =

@@ -58,69 +58,43 @@ mul-entry c = omega (arith, c .before .before .before .before .before .before .b
 loop-holds : tie.Need-loop-holds Inv-loop μ-loop
 loop-holds c =
     let s = c .before .before .before .before .before .before .before in
-    spanning-starts (s .args .old) (s .args .new) (s .args .bucket) (s .args .end) (s .args .at) (s .args .rows .now)
-    (s .pre .1 .1)
-    (c .before .before .before .slot-of .result)
-    (c .before .before .slot-of2 .result)
-    (s .pre .1 .0)
-    (c .before .before .before .slot-of .ensures)
-    (c .before .before .slot-of2 .ensures)
+    spanning-starts (s .pre .1 .1) (s .pre .1 .0) (c .before .before .before .slot-of .ensures) (c .before .before .slot-of2 .ensures)
 
 write-row-requires : tie.Need-write-row-requires Inv-loop μ-loop
 write-row-requires c κs =
-    let s = start (c .before .before) in
-    let n = c .before .before .loop in
-    spanning-room (s .args .old) (s .args .new) (s .args .bucket) (s .args .end) (s .args .at) (s .args .rows .now)
-    (s .pre .1 .1)
-    (n .rows)
-    (n .here)
-    (n .there)
-    (n .x)
-    (n .entry)
-    (n .inv)
-    (c .before .loop-test .taken)
-    .0
+    let at = c .before .before in
+    spanning-room (start at .pre .1 .1) (at .loop .inv) (c .before .loop-test .taken) .0
 
 next-slot-requires : tie.Need-next-slot-requires Inv-loop μ-loop
 next-slot-requires c κs =
-    let s = start (c .before .before .before .before .before) in
-    let n = c .before .before .before .before .before .loop in
-    slot-next (s .args .old .first) (s .args .old .bins) (n .x) (s .args .old .adjustment) (s .args .end) (n .here)
+    let at = c .before .before .before .before .before in
+    let s = start at in
+    slot-next (s .args .old .first) (s .args .old .bins) (at .loop .x) (s .args .old .adjustment) (s .args .end) (at .loop .here)
     (s .pre .0 .0 .some)
-    (n .inv .oldSlot)
+    (at .loop .inv .oldSlot)
     (c .before .before .before .before .loop-test .taken)
     (s .fits .end .fits)
 
 next-slot-requires-2 : tie.Need-next-slot-requires-2 Inv-loop μ-loop
 next-slot-requires-2 c κs =
-    let s = start (c .before .before .before .before .before .before) in
-    let n = c .before .before .before .before .before .before .loop in
-    slot-next (s .args .new .first) (s .args .new .bins) (n .x) (s .args .new .adjustment) (s .args .end) (n .there)
+    let at = c .before .before .before .before .before .before in
+    let s = start at in
+    slot-next (s .args .new .first) (s .args .new .bins) (at .loop .x) (s .args .new .adjustment) (s .args .end) (at .loop .there)
     (s .pre .0 .1 .some)
-    (n .inv .newSlot)
+    (at .loop .inv .newSlot)
     (c .before .before .before .before .before .loop-test .taken)
     (s .fits .end .fits)
 
 add-x : tie.Need-add-x Inv-loop μ-loop
 add-x c =
-    let t = c .before .before .before .before .before .before in
-    omega (arith, t .loop-test .taken, start (t .before) .fits .end)
+    let test = c .before .before .before .before .before .before in
+    omega (arith, test .loop-test .taken, start (test .before) .fits .end)
 
 add-entry : tie.Need-add-entry Inv-loop μ-loop
 add-entry c =
-    let s = start (c .before .before .before .before .before .before .before) in
-    let n = c .before .before .before .before .before .before .before .loop in
-    let room =
-    spanning-room (s .args .old) (s .args .new) (s .args .bucket) (s .args .end) (s .args .at) (s .args .rows .now)
-    (s .pre .1 .1)
-    (n .rows)
-    (n .here)
-    (n .there)
-    (n .x)
-    (n .entry)
-    (n .inv)
-    (c .before .before .before .before .before .before .loop-test .taken)
-    .1 in
+    let at = c .before .before .before .before .before .before .before in
+    let s = start at in
+    let room = spanning-room (s .pre .1 .1) (at .loop .inv) (c .before .before .before .before .before .before .loop-test .taken) .1 in
     record { fits = lt-of-le-of-lt room (s .good .1 .1 .1 .1 .1 .0 .0) }
 
 loop-less : tie.Need-loop-less Inv-loop μ-loop
@@ -128,52 +102,18 @@ loop-less c = falls _ _ (c .before .before .before .before .before .before .loop
 
 loop-again : tie.Need-loop-again Inv-loop μ-loop
 loop-again c =
-    let s = start (c .before .before .before .before .before .before .before) in
-    let n = c .before .before .before .before .before .before .before .loop in
-    spanning-more (s .args .old) (s .args .new) (s .args .bucket) (s .args .end) (s .args .at) (s .args .rows .now)
-    (s .pre .1 .1)
-    (n .rows)
-    (n .here)
-    (n .there)
-    (n .x)
-    (n .entry)
-    (n .inv)
-    (c .before .before .before .before .write-row .last .0)
-    (c .before .next-slot .result)
-    (c .next-slot2 .result)
-    (c .before .before .before .before .before .before .loop-test .taken)
-    (s .pre .0 .0)
-    (s .pre .0 .1)
+    let at = c .before .before .before .before .before .before .before in
+    let s = start at in
+    spanning-more (s .pre .1 .1) (at .loop .inv) (c .before .before .before .before .before .before .loop-test .taken) (s .pre .0 .0) (s .pre .0 .1)
     (c .before .before .before .before .write-row .ensures)
     (c .before .next-slot .ensures)
     (c .next-slot2 .ensures)
 
 same-length-2 : tie.Need-same-length-2 Inv-loop μ-loop
-same-length-2 c =
-    let s = start (c .before) in
-    let n = c .before .loop in
-    spanning-length (s .args .old) (s .args .new) (s .args .bucket) (s .args .end) (s .args .at) (s .args .rows .now)
-    (s .pre .1 .1)
-    (n .rows)
-    (n .here)
-    (n .there)
-    (n .x)
-    (n .entry)
-    (n .inv)
+same-length-2 c = spanning-length (start (c .before) .pre .1 .1) (c .before .loop .inv)
 
 returns-2 : tie.Need-returns-2 Inv-loop μ-loop
-returns-2 c =
-    let s = start (c .before) in
-    let n = c .before .loop in
-    spanning-ends (s .args .old) (s .args .new) (s .args .bucket) (s .args .end) (s .args .at) (s .args .rows .now)
-    (s .pre .1 .1)
-    (n .rows)
-    (n .here)
-    (n .there)
-    (n .x)
-    (n .entry)
-    (n .inv)
-    (c .loop-test .left)
+returns-2 c = spanning-ends (start (c .before) .pre .1 .1) (c .before .loop .inv) (c .loop-test .left)
 
 pub write-span-spec : {M : Type 1} → statement M
 write-span-spec =
