@@ -12,12 +12,12 @@ use Rattle.relocations.specs.Spans.{placedRow, pairRow, runRow, turn, wi
 use Rattle.relocations.specs.declared.Placing.{Placing}
 use Rattle.relocations.specs.declared.Slot.{Slot}
 use Rattle.relocations.specs.declared.Turn.{Turn}
-use Rattle.relocations.proofs.Spans.{row-slots, five-numbers, Filled, filled-starts, filled-length, filled-run, filled-more, filled-ends}
+use Rattle.relocations.proofs.Spans.{row-slots, five-numbers, Listed, listed-starts, listed-length, listed-run, listed-more, listed-ends}
 
 -- TURNS
 
 -- the turn of a slot
-pub turned-slot
+turned-slot
     : (f d rank : ℕ) (s : Slot) → Slotted f d rank s → Turned f d rank (turn (s .bin + s .position * 2 ^ 32) (f + d - s .bin))
 turned-slot f d rank s h =
     record {
@@ -33,7 +33,7 @@ module _ (f d rank : ℕ) (t : Turn) (fits : f + d < 2 ^ 32) (h : Turned f d ran
   position-low = omega (arith, h .whole, h .some, h .most, le-mul-of-pos-right {m = d} (h .position) (omega (arith, h .some, h .most)))
 
   -- the numbers of a run fit
-  pub turned-fits : (k : ℕ) → k ≤ t .left → rank + 1 < 2 ^ 32 → t .place + k + 2 ^ 32 < 2 ^ 64
+  turned-fits : (k : ℕ) → k ≤ t .left → rank + 1 < 2 ^ 32 → t .place + k + 2 ^ 32 < 2 ^ 64
   turned-fits k l low = omega (arith, h .placed, position-low)
 
   -- the slots of a run
@@ -55,7 +55,7 @@ pub record Running
   pub within : x ≤ end
   pub oldPair : here ≡ old + (x - bucket)
   pub newPair : there ≡ new + (x - bucket)
-  pub done : Filled (runRow bucket old new) b at rows₀ rows x entry
+  pub done : Listed (runRow bucket old new) b at rows₀ rows x entry
 
 five-pairs : (bucket old new x : ℕ) → length (runRow bucket old new x) ≡ 5
 unfolding runRow pairRow
@@ -79,15 +79,13 @@ module _ {old new bucket end : ℕ} where
           within = l;
           oldPair = p;
           newPair = q;
-          done = filled-starts (five-pairs bucket old new) b at rows₀;
+          done = listed-starts (five-pairs bucket old new) b at rows₀;
         }
 
     module _
         {rows : List ℕ} {here there x entry : ℕ} (s : Running old new bucket end b at rows₀ rows here there x entry) where
       pub running-length : length rows ≡ length rows₀
-      running-length =
-          filled-length (five-pairs bucket old new) (s .done)
-          (omega (arith, s .within))
+      running-length = listed-length (five-pairs bucket old new) (s .done) (omega (arith, s .within))
 
       -- there is room for n rows more
       pub running-room : (n : ℕ) → x + n ≤ end → (entry + 5 * n ≤ length rows) × (entry + 5 * n ≤ length rows₀)
@@ -98,14 +96,14 @@ module _ {old new bucket end : ℕ} where
           : {rows′ : List ℕ} → x < end → rows′ ≡ sets rows entry (pairRow x here there)
           → Running old new bucket end b at rows₀ rows′ (here + 1) (there + 1) (x + 1) (entry + 5)
       unfolding runRow
-      running-more {rows′} l e =
+      running-more l e =
           let after = s .done .after in
           record {
             within = omega arith;
             oldPair = omega (arith, s .oldPair);
             newPair = omega (arith, s .newPair);
             done =
-                filled-more (five-pairs bucket old new) (s .done) (omega arith)
+                listed-more (five-pairs bucket old new) (s .done) (omega arith)
                 (e ∙ ap₂ (λ p q. sets rows entry (pairRow x p q)) (s .oldPair) (s .newPair));
           }
 
@@ -126,8 +124,8 @@ module _ {old new bucket end : ℕ} where
       → end ≤ x → 5 * (at + (end - bucket)) ≤ length rows₀
       → rows ≡ withRows at (from (runRow bucket old new) bucket (end - bucket)) rows₀
   running-ends r s l fits =
-      filled-ends (five-pairs bucket old new)
-      (filled-run (five-pairs bucket old new) (r .done) _ _ (omega (arith, r .within)) (r .done .entries) (s .done .filled))
+      listed-ends (five-pairs bucket old new)
+      (listed-run (five-pairs bucket old new) (r .done) _ _ (omega (arith, r .within)) (r .done .entries) (s .done .filled))
       end
       (omega (arith, s .within, s .done .after))
 
@@ -169,7 +167,7 @@ pub record Turning
   pub ends : x + left ≡ end
   pub oldTurn : Turned (old .first) (old .bins) (x - old .adjustment) here
   pub newTurn : Turned (new .first) (new .bins) (x - new .adjustment) there
-  pub done : Filled (placedRow old new) bucket at rows₀ rows x (5 * row)
+  pub done : Listed (placedRow old new) bucket at rows₀ rows x (5 * row)
 
 module _
     {old new : Placing} {bucket end at : ℕ} {rows₀ : List ℕ} (o : Places old bucket) (n : Places new bucket)
@@ -185,14 +183,13 @@ module _
         ends = omega arith;
         oldTurn = rw e (turned-slot (old .first) (old .bins) (bucket - old .adjustment) s h);
         newTurn = rw e′ (turned-slot (new .first) (new .bins) (bucket - new .adjustment) s′ h′);
-        done = filled-starts (five-numbers old new) bucket at rows₀;
+        done = listed-starts (five-numbers old new) bucket at rows₀;
       }
 
   module _
       {rows : List ℕ} {here there : Turn} {x left row : ℕ} (s : Turning old new bucket end at rows₀ rows here there x left row) where
     pub turning-length : length rows ≡ length rows₀
-    turning-length =
-        filled-length (five-numbers old new) (s .done) (omega (arith, s .ends))
+    turning-length = listed-length (five-numbers old new) (s .done) (omega (arith, s .ends))
 
     -- there is room for a run
     pub turning-room : (k : ℕ) → k ≤ left → (5 * (row + k) ≤ length rows) × (5 * (row + k) ≤ length rows₀)
@@ -214,7 +211,7 @@ module _
         → Runs (old .bins) k here here′ → Runs (new .bins) k there there′
         → Turning old new bucket end at rows₀ rows′ here′ there′ (x + k) (left - k) (row + k)
     unfolding runRow pairRow
-    turning-more {k} {rows′} {here′} {there′} l l′ l″ e r r′ =
+    turning-more {k} {here′ = here′} {there′ = there′} l l′ l″ e r r′ =
         let after = s .done .after in
         let same : from (runRow x (here .place) (there .place)) x k ≡ from (placedRow old new) x k =
         from-ext (runRow x (here .place) (there .place)) (placedRow old new) x k
@@ -227,11 +224,10 @@ module _
           oldTurn = placed-turn old bucket x here o after k here′ (s .oldTurn) r;
           newTurn = placed-turn new bucket x there n after k there′ (s .newTurn) r′;
           done =
-              filled-run (five-numbers old new) (s .done) k row (omega (arith, s .ends)) refl
+              listed-run (five-numbers old new) (s .done) k row (omega (arith, s .ends)) refl
               (e ∙ ap (λ l. withRows row l rows) same);
         }
 
     -- after the last
     pub turning-ends : left ≡ 0 → rows ≡ withRows at (from (placedRow old new) bucket (end - bucket)) rows₀
-    turning-ends none =
-        filled-ends (five-numbers old new) (s .done) end (omega (arith, s .ends))
+    turning-ends none = listed-ends (five-numbers old new) (s .done) end (omega (arith, s .ends))

@@ -102,11 +102,11 @@ module _ (at : ℕ) (rs : List (List ℕ)) (buffer : List ℕ) (fives : Fives rs
       )
 
   -- rows behind them
-  pub with-append
-      : (ss : List (List ℕ)) (k : ℕ) → length rs ≡ k → Fives ss
+  with-append
+      : (ss : List (List ℕ)) (k : ℕ) → length rs ≡ k
       → withRows (at + k) ss (withRows at rs buffer) ≡ withRows at (rs ++ ss) buffer
   unfolding withRows
-  with-append ss k same more =
+  with-append ss k same =
       let P = take (5 * at) buffer ++ joined rs in
       let Q = drop (5 * (at + length rs)) buffer in
       let past : 5 * (at + k + length ss) ≡ length P + 5 * length ss = omega (arith, front) in
@@ -121,7 +121,7 @@ module _ (at : ℕ) (rs : List (List ℕ)) (buffer : List ℕ) (fives : Fives rs
       ∙ ap (λ n. drop n buffer) last)
 
 -- one row
-pub with-one
+with-one
     : (at : ℕ) (r buffer : List ℕ) → length r ≡ 5 → 5 * (at + 1) ≤ length buffer
     → sets buffer (5 * at) r ≡ withRows at (r ∷ []) buffer
 unfolding withRows joined
@@ -258,30 +258,30 @@ module _ (f : ℕ → List ℕ) (p e q w : ℕ) (buffer : List ℕ) where
 -- ROWS FROM A BUCKET ON
 
 -- the rows f of the buckets from b up to x are written, from row number `at` on; `entry` is the next
-pub record Filled (f : ℕ → List ℕ) (b at : ℕ) (rows₀ rows : List ℕ) (x entry : ℕ) : Type 0 where
+pub record Listed (f : ℕ → List ℕ) (b at : ℕ) (rows₀ rows : List ℕ) (x entry : ℕ) : Type 0 where
   pub after : b ≤ x
   pub entries : entry ≡ 5 * (at + (x - b))
   pub filled : rows ≡ withRows at (from f b (x - b)) rows₀
 
 module _ {f : ℕ → List ℕ} (five : (x : ℕ) → length (f x) ≡ 5) where
-  pub filled-starts : (b at : ℕ) (rows₀ : List ℕ) → Filled f b at rows₀ rows₀ b (5 * at)
+  pub listed-starts : (b at : ℕ) (rows₀ : List ℕ) → Listed f b at rows₀ rows₀ b (5 * at)
   unfolding from
-  filled-starts b at rows₀ =
+  listed-starts b at rows₀ =
       let none : b - b ≡ 0 = omega arith in
       record { after = omega arith; entries = omega arith; filled = sym (rw none (with-none at rows₀)) }
 
-  module _ {b at : ℕ} {rows₀ rows : List ℕ} {x entry : ℕ} (s : Filled f b at rows₀ rows x entry) where
-    pub filled-length : 5 * (at + (x - b)) ≤ length rows₀ → length rows ≡ length rows₀
-    filled-length fits =
+  module _ {b at : ℕ} {rows₀ rows : List ℕ} {x entry : ℕ} (s : Listed f b at rows₀ rows x entry) where
+    pub listed-length : 5 * (at + (x - b)) ≤ length rows₀ → length rows ≡ length rows₀
+    listed-length fits =
         let count = length-from f b (x - b) in
         ap length (s .filled) ∙ with-length at (from f b (x - b)) rows₀ (fives-from f five b (x - b)) (omega arith)
 
     -- n rows more
-    pub filled-run
+    pub listed-run
         : {rows′ : List ℕ} (n j : ℕ) → 5 * (at + (x - b)) ≤ length rows₀ → entry ≡ 5 * j
         → rows′ ≡ withRows j (from f x n) rows
-        → Filled f b at rows₀ rows′ (x + n) (5 * (j + n))
-    filled-run n j fits here e =
+        → Listed f b at rows₀ rows′ (x + n) (5 * (j + n))
+    listed-run n j fits here e =
         let count = length-from f b (x - b) in
         let row : j ≡ at + (x - b) = omega (arith, s .entries) in
         let this : x ≡ b + (x - b) = omega (arith, s .after) in
@@ -293,28 +293,28 @@ module _ {f : ℕ → List ℕ} (five : (x : ℕ) → length (f x) ≡ 5) where
               e
               ∙ ap₂ (λ i l. withRows i (from f x n) l) row (s .filled)
               ∙ with-append at (from f b (x - b)) rows₀ (fives-from f five b (x - b)) (omega arith)
-              (from f x n) (x - b) count (fives-from f five x n)
+              (from f x n) (x - b) count
               ∙ ap (λ y. withRows at (from f b (x - b) ++ from f y n) rows₀) this
               ∙ ap (λ l. withRows at l rows₀) (from-append f b (x - b) n)
               ∙ ap (λ m. withRows at (from f b m) rows₀) more;
         }
 
     -- one row more
-    pub filled-more
+    pub listed-more
         : {rows′ : List ℕ} → 5 * (at + (x - b) + 1) ≤ length rows₀ → rows′ ≡ sets rows entry (f x)
-        → Filled f b at rows₀ rows′ (x + 1) (entry + 5)
+        → Listed f b at rows₀ rows′ (x + 1) (entry + 5)
     unfolding from
-    filled-more fits e =
-        let same = filled-length (omega arith) in
+    listed-more fits e =
+        let same = listed-length (omega arith) in
         let j = at + (x - b) in
         let next : 5 * (j + 1) ≡ entry + 5 = omega (arith, s .entries) in
         rw next at
-        (filled-run 1 j (omega arith) (s .entries)
+        (listed-run 1 j (omega arith) (s .entries)
         (e ∙ ap (λ i. sets rows i (f x)) (s .entries) ∙ with-one j (f x) rows (five x) (omega arith)))
 
     -- after the last
-    pub filled-ends : (end : ℕ) → x ≡ end → rows ≡ withRows at (from f b (end - b)) rows₀
-    filled-ends end same = s .filled ∙ ap (λ y. withRows at (from f b (y - b)) rows₀) same
+    pub listed-ends : (end : ℕ) → x ≡ end → rows ≡ withRows at (from f b (end - b)) rows₀
+    listed-ends end same = s .filled ∙ ap (λ y. withRows at (from f b (y - b)) rows₀) same
 
 -- A SPAN, ROW BY ROW
 
@@ -324,7 +324,7 @@ pub record Spanning
   pub within : x ≤ end
   pub oldSlot : Slotted (old .first) (old .bins) (x - old .adjustment) here
   pub newSlot : Slotted (new .first) (new .bins) (x - new .adjustment) there
-  pub done : Filled (placedRow old new) bucket at rows₀ rows x entry
+  pub done : Listed (placedRow old new) bucket at rows₀ rows x entry
 
 pub five-numbers : (old new : Placing) (x : ℕ) → length (placedRow old new x) ≡ 5
 unfolding placedRow
@@ -340,14 +340,14 @@ module _ {old new : Placing} {bucket end at : ℕ} {rows₀ : List ℕ} (fits : 
         within = le;
         oldSlot = h;
         newSlot = h′;
-        done = filled-starts (five-numbers old new) bucket at rows₀;
+        done = listed-starts (five-numbers old new) bucket at rows₀;
       }
 
   module _
       {rows : List ℕ} {here there : Slot} {x entry : ℕ} (s : Spanning old new bucket end at rows₀ rows here there x entry) where
     pub spanning-length : length rows ≡ length rows₀
     spanning-length =
-        filled-length (five-numbers old new) (s .done) (omega (arith, s .within))
+        listed-length (five-numbers old new) (s .done) (omega (arith, s .within))
 
     -- there is room for the next row
     pub spanning-room : x < end → (entry + 5 ≤ length rows) × (entry + 5 ≤ length rows₀)
@@ -359,7 +359,7 @@ module _ {old new : Placing} {bucket end at : ℕ} {rows₀ : List ℕ} (fits : 
         → rows′ ≡ sets rows entry (x ∷ here .bin ∷ here .position ∷ there .bin ∷ there .position ∷ [])
         → Steps (old .first) (old .first + old .bins - 1) here here′ → Steps (new .first) (new .first + new .bins - 1) there there′
         → Spanning old new bucket end at rows₀ rows′ here′ there′ (x + 1) (entry + 5)
-    spanning-more {rows′} {here′} {there′} l o n e h h′ =
+    spanning-more {here′ = here′} {there′ = there′} l o n e h h′ =
         let after = s .done .after in
         record {
           within = omega arith;
@@ -368,11 +368,11 @@ module _ {old new : Placing} {bucket end at : ℕ} {rows₀ : List ℕ} (fits : 
           newSlot =
               slot-stepped (new .first) (new .bins) x (new .adjustment) there there′ (n .some) (omega (arith, n .ranked)) (s .newSlot) h′;
           done =
-              filled-more (five-numbers old new) (s .done) (omega arith)
+              listed-more (five-numbers old new) (s .done) (omega arith)
               (e ∙ ap (sets rows entry) (row-slots old new x here there (s .oldSlot) (s .newSlot)));
         }
 
     -- after the last
     pub spanning-ends : end ≤ x → rows ≡ withRows at (from (placedRow old new) bucket (end - bucket)) rows₀
     spanning-ends l =
-        filled-ends (five-numbers old new) (s .done) end (omega (arith, s .within))
+        listed-ends (five-numbers old new) (s .done) end (omega (arith, s .within))
