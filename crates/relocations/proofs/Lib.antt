@@ -1,3 +1,4 @@
 pub mod Spans
+pub mod Runs
 pub mod Actions
 pub mod Walking

@@ -1,5 +1,5 @@
 -- Laws of slots, of rows written into a buffer, and of a page filled part by part. Assumes nothing.
-use Prim.Native.Nat.{ℕ, suc, _+_, _-_, _*_, _/_, _%_, _^_, min, _≤_, _<_}
+use Prim.Native.Nat.{ℕ, _+_, _-_, _*_, _/_, _%_, _^_, min, _≤_, _<_}
 use mathlib.Core.Path.{_≡_, refl, sym, _∙_, ap, ap₂}
 use mathlib.Core.Logic.{⊎-elim}
 use mathlib.Core.List.{List, [], _∷_, _++_, append-nil, append-assoc}
@@ -101,29 +101,34 @@ module _ (at : ℕ) (rs : List (List ℕ)) (buffer : List ℕ) (fives : Fives rs
         length-drop (5 * (at + length rs)) buffer,
       )
 
-  -- one row more
-  pub with-more
-      : (r : List ℕ) → length r ≡ 5 → 5 * (at + suc (length rs)) ≤ length buffer
-      → sets (withRows at rs buffer) (5 * (at + length rs)) r ≡ withRows at (rs ++ (r ∷ [])) buffer
-  unfolding withRows joined
-  with-more r five room =
+  -- rows behind them
+  with-append
+      : (ss : List (List ℕ)) (k : ℕ) → length rs ≡ k
+      → withRows (at + k) ss (withRows at rs buffer) ≡ withRows at (rs ++ ss) buffer
+  unfolding withRows
+  with-append ss k same =
       let P = take (5 * at) buffer ++ joined rs in
       let Q = drop (5 * (at + length rs)) buffer in
-      let i = 5 * (at + length rs) in
-      let past : i + length r ≡ length P + 5 = omega (arith, front) in
-      let last : i + 5 ≡ 5 * (at + length (rs ++ (r ∷ []))) = omega (arith, length-append rs (r ∷ [])) in
-      let left : take i (P ++ Q) ++ r ≡ take (5 * at) buffer ++ joined (rs ++ (r ∷ [])) =
-      ap (λ l. l ++ r) (take-at P Q i front)
-      ∙ append-assoc (take (5 * at) buffer) (joined rs) r
-      ∙ ap (λ l. take (5 * at) buffer ++ l)
-      (sym (joined-append rs (r ∷ []) ∙ ap (λ l. joined rs ++ l) (append-nil r))) in
-      let right : drop (i + length r) (P ++ Q) ≡ drop (5 * (at + length (rs ++ (r ∷ [])))) buffer =
-      ap (λ n. drop n (P ++ Q)) past
-      ∙ drop-append-add P Q 5
-      ∙ drop-drop 5 i buffer
-      ∙ ap (λ n. drop n buffer) last in
-      sets-eq r (P ++ Q) i (omega (arith, length-append P Q, front, length-drop i buffer))
-      ∙ ap₂ (λ l m. l ++ m) left right
+      let past : 5 * (at + k + length ss) ≡ length P + 5 * length ss = omega (arith, front) in
+      let last : 5 * (at + length rs) + 5 * length ss ≡ 5 * (at + length (rs ++ ss)) = omega (arith, length-append rs ss) in
+      ap₂ (λ l m. l ++ m)
+      (ap (λ l. l ++ joined ss) (take-at P Q (5 * (at + k)) (omega (arith, front)))
+      ∙ append-assoc (take (5 * at) buffer) (joined rs) (joined ss)
+      ∙ ap (λ l. take (5 * at) buffer ++ l) (sym (joined-append rs ss)))
+      (ap (λ n. drop n (P ++ Q)) past
+      ∙ drop-append-add P Q (5 * length ss)
+      ∙ drop-drop (5 * length ss) (5 * (at + length rs)) buffer
+      ∙ ap (λ n. drop n buffer) last)
+
+-- one row
+with-one
+    : (at : ℕ) (r buffer : List ℕ) → length r ≡ 5 → 5 * (at + 1) ≤ length buffer
+    → sets buffer (5 * at) r ≡ withRows at (r ∷ []) buffer
+unfolding withRows joined
+with-one at r buffer five room =
+    let past : 5 * at + length r ≡ 5 * (at + 1) = omega arith in
+    sets-eq r buffer (5 * at) (omega arith)
+    ∙ ap₂ (λ l n. take (5 * at) buffer ++ l ++ drop n buffer) (sym (append-nil r)) past
 
 -- A PAGE FILLED PART BY PART
 
@@ -250,87 +255,124 @@ module _ (f : ℕ → List ℕ) (p e q w : ℕ) (buffer : List ℕ) where
         ≡ paged q w (from f p (e - p)) buffer
     paged-room l = paged-cut _ (some-left _ _ (p + skip) l)
 
+-- ROWS FROM A BUCKET ON
+
+-- the rows f of the buckets from b up to x are written, from row number `at` on; `entry` is the next
+pub record Listed (f : ℕ → List ℕ) (b at : ℕ) (rows₀ rows : List ℕ) (x entry : ℕ) : Type 0 where
+  pub after : b ≤ x
+  pub entries : entry ≡ 5 * (at + (x - b))
+  pub filled : rows ≡ withRows at (from f b (x - b)) rows₀
+
+module _ {f : ℕ → List ℕ} (five : (x : ℕ) → length (f x) ≡ 5) where
+  pub listed-starts : (b at : ℕ) (rows₀ : List ℕ) → Listed f b at rows₀ rows₀ b (5 * at)
+  unfolding from
+  listed-starts b at rows₀ =
+      let none : b - b ≡ 0 = omega arith in
+      record { after = omega arith; entries = omega arith; filled = sym (rw none (with-none at rows₀)) }
+
+  module _ {b at : ℕ} {rows₀ rows : List ℕ} {x entry : ℕ} (s : Listed f b at rows₀ rows x entry) where
+    pub listed-length : 5 * (at + (x - b)) ≤ length rows₀ → length rows ≡ length rows₀
+    listed-length fits =
+        let count = length-from f b (x - b) in
+        ap length (s .filled) ∙ with-length at (from f b (x - b)) rows₀ (fives-from f five b (x - b)) (omega arith)
+
+    -- n rows more
+    pub listed-run
+        : {rows′ : List ℕ} (n j : ℕ) → 5 * (at + (x - b)) ≤ length rows₀ → entry ≡ 5 * j
+        → rows′ ≡ withRows j (from f x n) rows
+        → Listed f b at rows₀ rows′ (x + n) (5 * (j + n))
+    listed-run n j fits here e =
+        let count = length-from f b (x - b) in
+        let row : j ≡ at + (x - b) = omega (arith, s .entries) in
+        let this : x ≡ b + (x - b) = omega (arith, s .after) in
+        let more : x - b + n ≡ x + n - b = omega (arith, s .after) in
+        record {
+          after = omega (arith, s .after);
+          entries = omega (arith, s .entries, s .after);
+          filled =
+              e
+              ∙ ap₂ (λ i l. withRows i (from f x n) l) row (s .filled)
+              ∙ with-append at (from f b (x - b)) rows₀ (fives-from f five b (x - b)) (omega arith)
+              (from f x n) (x - b) count
+              ∙ ap (λ y. withRows at (from f b (x - b) ++ from f y n) rows₀) this
+              ∙ ap (λ l. withRows at l rows₀) (from-append f b (x - b) n)
+              ∙ ap (λ m. withRows at (from f b m) rows₀) more;
+        }
+
+    -- one row more
+    pub listed-more
+        : {rows′ : List ℕ} → 5 * (at + (x - b) + 1) ≤ length rows₀ → rows′ ≡ sets rows entry (f x)
+        → Listed f b at rows₀ rows′ (x + 1) (entry + 5)
+    unfolding from
+    listed-more fits e =
+        let same = listed-length (omega arith) in
+        let j = at + (x - b) in
+        let next : 5 * (j + 1) ≡ entry + 5 = omega (arith, s .entries) in
+        rw next at
+        (listed-run 1 j (omega arith) (s .entries)
+        (e ∙ ap (λ i. sets rows i (f x)) (s .entries) ∙ with-one j (f x) rows (five x) (omega arith)))
+
+    -- after the last
+    pub listed-ends : (end : ℕ) → x ≡ end → rows ≡ withRows at (from f b (end - b)) rows₀
+    listed-ends end same = s .filled ∙ ap (λ y. withRows at (from f b (y - b)) rows₀) same
+
 -- A SPAN, ROW BY ROW
 
 -- the rows of the buckets from `bucket` up to x are written, and `here` and `there` are the slots of x
 pub record Spanning
     (old new : Placing) (bucket end at : ℕ) (rows₀ rows : List ℕ) (here there : Slot) (x entry : ℕ) : Type 0 where
-  pub after : bucket ≤ x
   pub within : x ≤ end
   pub oldSlot : Slotted (old .first) (old .bins) (x - old .adjustment) here
   pub newSlot : Slotted (new .first) (new .bins) (x - new .adjustment) there
-  pub entries : entry ≡ 5 * (at + (x - bucket))
-  pub filled : rows ≡ withRows at (from (placedRow old new) bucket (x - bucket)) rows₀
+  pub done : Listed (placedRow old new) bucket at rows₀ rows x entry
 
 pub five-numbers : (old new : Placing) (x : ℕ) → length (placedRow old new x) ≡ 5
 unfolding placedRow
 five-numbers old new x = refl
 
-module _ (old new : Placing) (bucket end at : ℕ) (rows₀ : List ℕ) (fits : 5 * (at + (end - bucket)) ≤ length rows₀) where
+module _ {old new : Placing} {bucket end at : ℕ} {rows₀ : List ℕ} (fits : 5 * (at + (end - bucket)) ≤ length rows₀) where
   pub spanning-starts
-      : (here there : Slot) → bucket ≤ end → Slotted (old .first) (old .bins) (bucket - old .adjustment) here
+      : {here there : Slot} → bucket ≤ end → Slotted (old .first) (old .bins) (bucket - old .adjustment) here
       → Slotted (new .first) (new .bins) (bucket - new .adjustment) there
       → Spanning old new bucket end at rows₀ rows₀ here there bucket (5 * at)
-  unfolding from
-  spanning-starts here there le h h′ =
-      let none : bucket - bucket ≡ 0 = omega arith in
+  spanning-starts le h h′ =
       record {
-        after = omega arith;
         within = le;
         oldSlot = h;
         newSlot = h′;
-        entries = omega arith;
-        filled = sym (rw none (with-none at rows₀));
+        done = listed-starts (five-numbers old new) bucket at rows₀;
       }
 
   module _
-      (rows : List ℕ) (here there : Slot) (x entry : ℕ) (s : Spanning old new bucket end at rows₀ rows here there x entry) where
+      {rows : List ℕ} {here there : Slot} {x entry : ℕ} (s : Spanning old new bucket end at rows₀ rows here there x entry) where
     pub spanning-length : length rows ≡ length rows₀
     spanning-length =
-        let count = length-from (placedRow old new) bucket (x - bucket) in
-        ap length (s .filled)
-        ∙ with-length at (from (placedRow old new) bucket (x - bucket)) rows₀
-        (fives-from (placedRow old new) (five-numbers old new) bucket (x - bucket))
-        (omega (arith, s .within))
+        listed-length (five-numbers old new) (s .done) (omega (arith, s .within))
 
     -- there is room for the next row
     pub spanning-room : x < end → (entry + 5 ≤ length rows) × (entry + 5 ≤ length rows₀)
-    spanning-room l = omega (arith, s .entries, s .after, spanning-length)
+    spanning-room l = omega (arith, s .done .entries, s .done .after, spanning-length)
 
     -- the next row
     pub spanning-more
-        : (rows′ : List ℕ) (here′ there′ : Slot) → x < end → Places old bucket → Places new bucket
+        : {rows′ : List ℕ} {here′ there′ : Slot} → x < end → Places old bucket → Places new bucket
         → rows′ ≡ sets rows entry (x ∷ here .bin ∷ here .position ∷ there .bin ∷ there .position ∷ [])
         → Steps (old .first) (old .first + old .bins - 1) here here′ → Steps (new .first) (new .first + new .bins - 1) there there′
         → Spanning old new bucket end at rows₀ rows′ here′ there′ (x + 1) (entry + 5)
-    unfolding from
-    spanning-more rows′ here′ there′ l o n e h h′ =
-        let rs = from (placedRow old new) bucket (x - bucket) in
-        let count = length-from (placedRow old new) bucket (x - bucket) in
-        let next : x + 1 - bucket ≡ x - bucket + 1 = omega (arith, s .after) in
-        let this : bucket + (x - bucket) ≡ x = omega (arith, s .after) in
-        let here-entry : entry ≡ 5 * (at + length rs) = omega (arith, s .entries) in
+    spanning-more {here′ = here′} {there′ = there′} l o n e h h′ =
+        let after = s .done .after in
         record {
-          after = omega (arith, s .after);
           within = omega arith;
           oldSlot =
-              slot-stepped (old .first) (old .bins) x (old .adjustment) here here′ (o .some) (omega (arith, o .ranked, s .after)) (s .oldSlot) h;
+              slot-stepped (old .first) (old .bins) x (old .adjustment) here here′ (o .some) (omega (arith, o .ranked)) (s .oldSlot) h;
           newSlot =
-              slot-stepped (new .first) (new .bins) x (new .adjustment) there there′ (n .some) (omega (arith, n .ranked, s .after)) (s .newSlot) h′;
-          entries = omega (arith, s .entries, s .after);
-          filled =
-              e
-              ∙ ap (sets rows entry) (row-slots old new x here there (s .oldSlot) (s .newSlot))
-              ∙ ap₂ (λ l i. sets l i (placedRow old new x)) (s .filled) here-entry
-              ∙ with-more at rs rows₀ (fives-from (placedRow old new) (five-numbers old new) bucket (x - bucket)) (omega arith)
-              (placedRow old new x) (five-numbers old new x) (omega arith)
-              ∙ ap (λ y. withRows at (rs ++ (placedRow old new y ∷ [])) rows₀) (sym this)
-              ∙ ap (λ l. withRows at l rows₀) (from-append (placedRow old new) bucket (x - bucket) 1)
-              ∙ ap (λ m. withRows at (from (placedRow old new) bucket m) rows₀) (sym next);
+              slot-stepped (new .first) (new .bins) x (new .adjustment) there there′ (n .some) (omega (arith, n .ranked)) (s .newSlot) h′;
+          done =
+              listed-more (five-numbers old new) (s .done) (omega arith)
+              (e ∙ ap (sets rows entry) (row-slots old new x here there (s .oldSlot) (s .newSlot)));
         }
 
     -- after the last
     pub spanning-ends : end ≤ x → rows ≡ withRows at (from (placedRow old new) bucket (end - bucket)) rows₀
     spanning-ends l =
-        let same : x ≡ end = omega (arith, s .within) in
-        s .filled ∙ ap (λ y. withRows at (from (placedRow old new) bucket (y - bucket)) rows₀) same
+        listed-ends (five-numbers old new) (s .done) end (omega (arith, s .within))

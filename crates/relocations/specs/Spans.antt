@@ -15,6 +15,7 @@ use Rattle.model.specs.declared.plan.Action.{Action}
 use Rattle.expansion_plan.specs.Shares.{DuesAfter}
 use Rattle.relocations.specs.declared.Placing.{Placing}
 use Rattle.relocations.specs.declared.Slot.{Slot}
+use Rattle.relocations.specs.declared.Turn.{Turn}
 
 abbrev pub placing : ℕ → ℕ → ℕ → Placing
 placing first bins adjustment = record { first = first; bins = bins; adjustment = adjustment }
@@ -28,6 +29,14 @@ placedRow old new x =
     ∷ (new .first + (x - new .adjustment) % new .bins)
     ∷ ((x - new .adjustment) / new .bins)
     ∷ []
+
+-- the row of bucket x whose two places are given as pairs
+unfoldable pub pairRow : ℕ → ℕ → ℕ → List ℕ
+pairRow x here there = x ∷ (here % 2 ^ 32) ∷ (here / 2 ^ 32) ∷ (there % 2 ^ 32) ∷ (there / 2 ^ 32) ∷ []
+
+-- the row of bucket x in a run from bucket b on, whose places are the pairs `old` and `new`
+unfoldable pub runRow : ℕ → ℕ → ℕ → ℕ → List ℕ
+runRow b old new x = pairRow x (old + (x - b)) (new + (x - b))
 
 -- a buffer with rows written into it from row number `at` on; the rest is kept
 unfoldable pub withRows : ℕ → List (List ℕ) → List ℕ → List ℕ
@@ -60,6 +69,21 @@ pub record Slotted (f d rank : ℕ) (s : Slot) : Type 0 where
 -- from the slot of a rank to that of the next, in a block of the bins from f to l
 abbrev pub Steps : ℕ → ℕ → Slot → Slot → Type 0
 Steps f l s s′ = (d rank : ℕ) → l + 1 ≡ f + d → Slotted f d rank s → Slotted f d (rank + 1) s′
+
+abbrev pub turn : ℕ → ℕ → Turn
+turn place left = record { place = place; left = left }
+
+-- the turn of a rank in a block of d bins from f on
+pub record Turned (f d rank : ℕ) (t : Turn) : Type 0 where
+  pub position : ℕ
+  pub some : 1 ≤ t .left
+  pub most : t .left ≤ d
+  pub placed : t .place + t .left ≡ f + d + position * 2 ^ 32
+  pub whole : position * d + d ≡ rank + t .left
+
+-- from the turn of a rank to that of the rank k later, in a block of d bins
+abbrev pub Runs : ℕ → ℕ → Turn → Turn → Type 0
+Runs d k t t′ = (f rank : ℕ) → Turned f d rank t → Turned f d (rank + k) t′
 
 -- buckets from p up to e that move, of which w have moved before
 pub record Part (old new : Placing) (p e w : ℕ) : Type 0 where

@@ -3,6 +3,7 @@ use Prim.Native.Nat.{_-_}
 use native.Mathlib.Nat.{lt-of-le-of-lt}
 use native.Mathlib.Omega.{arith}
 use borrow.Author.Count.{falls}
+use borrow.Author.Needs.{needs}
 use Rattle.relocations.proofs.Spans.{places-later, slot-next, Spanning, spanning-room, spanning-starts, spanning-length, spanning-more, spanning-ends}
 use Rattle.relocations.proofs.write_span.Statement.{statement}
 use Rattle.relocations.proofs.write_span.Tie as tie
@@ -14,6 +15,10 @@ Inv-loop old new bucket end at rows₀ old-last new-last here₀ there₀ x₀ e
 abbrev μ-loop : tie.MeasureT-loop
 μ-loop old new bucket end at rows₀ old-last new-last here₀ there₀ x₀ entry₀ rows here there x entry =
     end - x
+
+-- the function's entry from a turn of the loop
+abbrev start : tie.At-loop Inv-loop μ-loop → tie.Start Inv-loop μ-loop
+start c = c .before .before .before .before .before .before .before .before
 
 add-old-last : tie.Need-add-old-last Inv-loop μ-loop
 add-old-last c = omega (arith, c .before .before .pre .0 .0 .fits)
@@ -33,81 +38,64 @@ slot-of-requires c κs = places-later _ _ _ (omega arith) (c .before .before .be
 slot-of-requires-2 : tie.Need-slot-of-requires-2 Inv-loop μ-loop
 slot-of-requires-2 c κs = places-later _ _ _ (omega arith) (c .before .before .before .before .pre .0 .1)
 
+smaller-requires : tie.Need-smaller-requires Inv-loop μ-loop
+smaller-requires c κs = search needs
+
+write-runs-requires : tie.Need-write-runs-requires Inv-loop μ-loop
+write-runs-requires c κs =
+    let s = c .before .before .before .before .before .before .before .before in
+    (s .pre .0, (c .before .before .before .before .slot-of .ensures, (c .before .before .before .slot-of2 .ensures, s .pre .1)))
+
+same-length : tie.Need-same-length Inv-loop μ-loop
+same-length c = search needs
+
+returns : tie.Need-returns Inv-loop μ-loop
+returns c = c .before .before .write-runs .ensures
+
 mul-entry : tie.Need-mul-entry Inv-loop μ-loop
-mul-entry c = omega (arith, c .before .before .before .before .before .pre)
+mul-entry c = omega (arith, c .before .before .before .before .before .before .before .pre)
 
 loop-holds : tie.Need-loop-holds Inv-loop μ-loop
 loop-holds c =
-    let start = c .before .before .before .before .before in
-    spanning-starts (start .args .old) (start .args .new) (start .args .bucket) (start .args .end) (start .args .at)
-    (start .args .rows .now)
-    (start .pre .1 .1)
-    (c .before .slot-of .result)
-    (c .slot-of2 .result)
-    (start .pre .1 .0)
-    (c .before .slot-of .ensures)
-    (c .slot-of2 .ensures)
+    let s = c .before .before .before .before .before .before .before in
+    spanning-starts (s .pre .1 .1) (s .pre .1 .0) (c .before .before .before .slot-of .ensures) (c .before .before .slot-of2 .ensures)
 
 write-row-requires : tie.Need-write-row-requires Inv-loop μ-loop
 write-row-requires c κs =
     let at = c .before .before in
-    let start = c .before .before .before .before .before .before .before .before in
-    spanning-room (start .args .old) (start .args .new) (start .args .bucket) (start .args .end) (start .args .at)
-    (start .args .rows .now)
-    (start .pre .1 .1)
-    (at .loop .rows)
-    (at .loop .here)
-    (at .loop .there)
-    (at .loop .x)
-    (at .loop .entry)
-    (at .loop .inv)
-    (c .before .loop-test .taken)
-    .0
+    spanning-room (start at .pre .1 .1) (at .loop .inv) (c .before .loop-test .taken) .0
 
 next-slot-requires : tie.Need-next-slot-requires Inv-loop μ-loop
 next-slot-requires c κs =
     let at = c .before .before .before .before .before in
-    let start = c .before .before .before .before .before .before .before .before .before .before .before in
-    slot-next (start .args .old .first) (start .args .old .bins) (at .loop .x) (start .args .old .adjustment) (start .args .end)
-    (at .loop .here)
-    (start .pre .0 .0 .some)
+    let s = start at in
+    slot-next (s .args .old .first) (s .args .old .bins) (at .loop .x) (s .args .old .adjustment) (s .args .end) (at .loop .here)
+    (s .pre .0 .0 .some)
     (at .loop .inv .oldSlot)
     (c .before .before .before .before .loop-test .taken)
-    (start .fits .end .fits)
+    (s .fits .end .fits)
 
 next-slot-requires-2 : tie.Need-next-slot-requires-2 Inv-loop μ-loop
 next-slot-requires-2 c κs =
     let at = c .before .before .before .before .before .before in
-    let start = c .before .before .before .before .before .before .before .before .before .before .before .before in
-    slot-next (start .args .new .first) (start .args .new .bins) (at .loop .x) (start .args .new .adjustment) (start .args .end)
-    (at .loop .there)
-    (start .pre .0 .1 .some)
+    let s = start at in
+    slot-next (s .args .new .first) (s .args .new .bins) (at .loop .x) (s .args .new .adjustment) (s .args .end) (at .loop .there)
+    (s .pre .0 .1 .some)
     (at .loop .inv .newSlot)
     (c .before .before .before .before .before .loop-test .taken)
-    (start .fits .end .fits)
+    (s .fits .end .fits)
 
 add-x : tie.Need-add-x Inv-loop μ-loop
 add-x c =
     let test = c .before .before .before .before .before .before in
-    omega (arith, test .loop-test .taken, test .before .before .before .before .before .before .before .fits .end)
+    omega (arith, test .loop-test .taken, start (test .before) .fits .end)
 
 add-entry : tie.Need-add-entry Inv-loop μ-loop
 add-entry c =
     let at = c .before .before .before .before .before .before .before in
-    let start = c .before .before .before .before .before .before .before .before .before .before .before .before .before in
-    let room =
-    spanning-room (start .args .old) (start .args .new) (start .args .bucket) (start .args .end) (start .args .at)
-    (start .args .rows .now)
-    (start .pre .1 .1)
-    (at .loop .rows)
-    (at .loop .here)
-    (at .loop .there)
-    (at .loop .x)
-    (at .loop .entry)
-    (at .loop .inv)
-    (c .before .before .before .before .before .before .loop-test .taken)
-    .1 in
-    record { fits = lt-of-le-of-lt room (start .good .1 .1 .1 .1 .1 .0 .0) }
+    let s = start at in
+    let room = spanning-room (s .pre .1 .1) (at .loop .inv) (c .before .before .before .before .before .before .loop-test .taken) .1 in
+    record { fits = lt-of-le-of-lt room (s .good .1 .1 .1 .1 .1 .0 .0) }
 
 loop-less : tie.Need-loop-less Inv-loop μ-loop
 loop-less c = falls _ _ (c .before .before .before .before .before .before .loop-test .taken)
@@ -115,54 +103,17 @@ loop-less c = falls _ _ (c .before .before .before .before .before .before .loop
 loop-again : tie.Need-loop-again Inv-loop μ-loop
 loop-again c =
     let at = c .before .before .before .before .before .before .before in
-    let start = c .before .before .before .before .before .before .before .before .before .before .before .before .before in
-    spanning-more (start .args .old) (start .args .new) (start .args .bucket) (start .args .end) (start .args .at)
-    (start .args .rows .now)
-    (start .pre .1 .1)
-    (at .loop .rows)
-    (at .loop .here)
-    (at .loop .there)
-    (at .loop .x)
-    (at .loop .entry)
-    (at .loop .inv)
-    (c .before .before .before .before .write-row .last .0)
-    (c .before .next-slot .result)
-    (c .next-slot2 .result)
-    (c .before .before .before .before .before .before .loop-test .taken)
-    (start .pre .0 .0)
-    (start .pre .0 .1)
+    let s = start at in
+    spanning-more (s .pre .1 .1) (at .loop .inv) (c .before .before .before .before .before .before .loop-test .taken) (s .pre .0 .0) (s .pre .0 .1)
     (c .before .before .before .before .write-row .ensures)
     (c .before .next-slot .ensures)
     (c .next-slot2 .ensures)
 
-same-length : tie.Need-same-length Inv-loop μ-loop
-same-length c =
-    let at = c .before in
-    let start = c .before .before .before .before .before .before .before in
-    spanning-length (start .args .old) (start .args .new) (start .args .bucket) (start .args .end) (start .args .at)
-    (start .args .rows .now)
-    (start .pre .1 .1)
-    (at .loop .rows)
-    (at .loop .here)
-    (at .loop .there)
-    (at .loop .x)
-    (at .loop .entry)
-    (at .loop .inv)
+same-length-2 : tie.Need-same-length-2 Inv-loop μ-loop
+same-length-2 c = spanning-length (start (c .before) .pre .1 .1) (c .before .loop .inv)
 
-returns : tie.Need-returns Inv-loop μ-loop
-returns c =
-    let at = c .before in
-    let start = c .before .before .before .before .before .before .before in
-    spanning-ends (start .args .old) (start .args .new) (start .args .bucket) (start .args .end) (start .args .at)
-    (start .args .rows .now)
-    (start .pre .1 .1)
-    (at .loop .rows)
-    (at .loop .here)
-    (at .loop .there)
-    (at .loop .x)
-    (at .loop .entry)
-    (at .loop .inv)
-    (c .loop-test .left)
+returns-2 : tie.Need-returns-2 Inv-loop μ-loop
+returns-2 c = spanning-ends (start (c .before) .pre .1 .1) (c .before .loop .inv) (c .loop-test .left)
 
 pub write-span-spec : {M : Type 1} → statement M
 write-span-spec =
@@ -176,6 +127,10 @@ write-span-spec =
     sub-new-last
     slot-of-requires
     slot-of-requires-2
+    smaller-requires
+    write-runs-requires
+    same-length
+    returns
     mul-entry
     loop-holds
     write-row-requires
@@ -185,5 +140,5 @@ write-span-spec =
     add-entry
     loop-less
     loop-again
-    same-length
-    returns)
+    same-length-2
+    returns-2)
