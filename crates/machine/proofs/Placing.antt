@@ -1,5 +1,5 @@
 -- `where` lines, one after the other, on a map. Assumes nothing.
-use Prim.Native.Nat.{ℕ, _+_, _-_, _≤_, _<_}
+use Prim.Native.Nat.{ℕ, _+_, _-_, _≤_}
 use mathlib.Core.Path.{_≡_, refl, sym, _∙_, ap, subst}
 use mathlib.Core.Bool.{true, false, false≢true}
 use mathlib.Core.List.{List}
@@ -17,7 +17,6 @@ use Rattle.lines.proofs.Spans.{span-first}
 use Rattle.session.specs.Maps.{Maps, maps, isEmpty, mapOf, session, next, shown, isList, Right}
 use Rattle.print.specs.Numbers.{lineRoom}
 use Rattle.console.specs.Rack.{Rack, rack, held, answerTo, Served, whereAnswer}
-use Rattle.console.specs.declared.Reply.{Reply}
 use Rattle.console.proofs.Serving.{shown-short}
 use Rattle.console.proofs.Wheres.{where-next, where-answer, where-lists-none}
 use Rattle.machine.specs.Machine.{Sane, Went, onTo, Shows, Places}

@@ -25,7 +25,8 @@ loop-holds c = let pre = c .before .pre in (went-none _ _ _ _ _ (pre .1) (pre .0
 
 answer-wheres-requires : tie.Need-answer-wheres-requires Inv-loop μ-loop
 answer-wheres-requires c κs =
-    let inv = c .before .before .before .before .before .before .before .before .before .before .loop .inv in ((inv .1, inv .0 .within, inv .0 .room), inv .0 .sane)
+    let inv = c .before .before .before .before .before .before .before .before .before .before .loop .inv in
+    ((inv .1, inv .0 .within, inv .0 .room), inv .0 .sane)
 
 feed-at-requires : tie.Need-feed-at-requires Inv-loop μ-loop
 feed-at-requires c κs = c .before .answer-wheres .ensures .within

@@ -16,7 +16,9 @@ same-length c = search needs
 returns : tie.Need-returns
 returns c =
     let told = c .before .before .put-refused .ensures in
-    where-said _ _ _ _ _ _ _ (where-refused _ _ _ (c .before .before .before .before .before .before .placed .ensures) (c .before .before .before .before .if1 .taken)) (told .0) (told .1)
+    where-said _ _ _ _ _ _ _
+    (where-refused _ _ _ (c .before .before .before .before .before .before .placed .ensures) (c .before .before .before .before .if1 .taken))
+    (told .0) (told .1)
 
 put-place-requires : tie.Need-put-place-requires
 put-place-requires c κs = search needs
@@ -27,7 +29,9 @@ same-length-2 c = search needs
 returns-2 : tie.Need-returns-2
 returns-2 c =
     let told = c .before .before .put-place .ensures in
-    where-said _ _ _ _ _ _ _ (where-told _ _ _ (c .before .before .before .before .before .before .placed .ensures) (c .before .before .before .before .if1 .left)) (told .0) (told .1)
+    where-said _ _ _ _ _ _ _
+    (where-told _ _ _ (c .before .before .before .before .before .before .placed .ensures) (c .before .before .before .before .if1 .left))
+    (told .0) (told .1)
 
 pub put-where-spec : {M : Type 1} → statement M
 put-where-spec =

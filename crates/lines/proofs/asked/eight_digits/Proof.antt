@@ -75,7 +75,9 @@ is-digit-requires-8 c κs = search needs
 
 returns : tie.Need-returns
 returns c =
-    eight-only _ _ (c .before .before .before .before .before .before .before .before .before .before .before .before .before .before .before .before .before .pre) _ _ _ _ _ _ _ _
+    eight-only _ _
+    (c .before .before .before .before .before .before .before .before .before .before .before .before .before .before .before .before .before .pre)
+    _ _ _ _ _ _ _ _
     (c .before .before .before .before .before .before .before .before .before .before .before .before .before .before .is-digit .ensures)
     (c .before .before .before .before .before .before .before .before .before .before .before .before .is-digit2 .ensures)
     (c .before .before .before .before .before .before .before .before .before .before .is-digit3 .ensures)

@@ -34,19 +34,22 @@ put-where-requires c κs = (omega arith, c .before .before .before .before .befo
 
 add-line : tie.Need-add-line Inv-loop μ-loop
 add-line c =
-    let asks = asked-for (c .before .before .before .before .before .before .before .before .before .where-at .ensures) (c .before .before .before .before .before .before .before .asked .given .1) in
-    omega (arith, asks .within)
+    let known = c .before .before .before .before .before .before .before in
+    let asks = asked-for (known .before .before .where-at .ensures) (known .asked .given .1) in
+    omega (arith, known .before .before .before .before .before .before .good, asks .within)
 
 loop-less : tie.Need-loop-less Inv-loop μ-loop
 loop-less c =
-    let asks = asked-for (c .before .before .before .before .before .before .before .before .before .where-at .ensures) (c .before .before .before .before .before .before .before .asked .given .1) in
+    let known = c .before .before .before .before .before .before .before in
+    let asks = asked-for (known .before .before .where-at .ensures) (known .asked .given .1) in
     omega (arith, asks .within, asks .ends)
 
 loop-again : tie.Need-loop-again Inv-loop μ-loop
 loop-again c =
-    let asks = asked-for (c .before .before .before .before .before .before .before .before .before .where-at .ensures) (c .before .before .before .before .before .before .before .asked .given .1) in
+    let known = c .before .before .before .before .before .before .before in
+    let asks = asked-for (known .before .before .where-at .ensures) (known .asked .given .1) in
     let said = c .put-where .ensures in
-    places-more (c .before .before .before .before .before .before .before .before .before .before .before .loop .inv) asks (omega arith) (said .0) (said .1) refl
+    places-more (known .before .before .before .before .loop .inv) asks (omega arith) (said .0) (said .1) refl
 
 returns : tie.Need-returns Inv-loop μ-loop
 returns c = c .before .loop .inv

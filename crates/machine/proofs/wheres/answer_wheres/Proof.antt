@@ -17,25 +17,33 @@ returns c =
 
 answer-places-requires : tie.Need-answer-places-requires
 answer-places-requires c κs =
-    let pre = c .before .before .before .before .before .before .before .pre in
-    (map-sound _ _ _ _ _ (pre .1) (sym (c .before .before .before .before .is-empty .ensures) ∙ c .before .before .before .if1 .left) (second-held _ _ _ (c .before .if2 .taken)), pre .0 .1, pre .0 .2)
+    let map = c .before .before .before in
+    let some = sym (map .before .is-empty .ensures) ∙ map .if1 .left in
+    let pre = map .before .before .before .before .pre in
+    (map-sound _ _ _ _ _ (pre .1) some (second-held _ _ _ (c .before .if2 .taken)), pre .0 .1, pre .0 .2)
 
 returns-2 : tie.Need-returns-2
 returns-2 c =
-    let pre = c .before .before .before .before .before .before .before .before .pre in
+    let map = c .before .before .before .before in
+    let some = sym (map .before .is-empty .ensures) ∙ map .if1 .left in
+    let pre = map .before .before .before .before .pre in
     c .answer-places .ensures .went _ _ _ refl
-    (map-shows _ _ _ _ _ (pre .1) (sym (c .before .before .before .before .before .is-empty .ensures) ∙ c .before .before .before .before .if1 .left) (second-held _ _ _ (c .before .before .if2 .taken)) (pre .0 .0))
+    (map-shows _ _ _ _ _ (pre .1) some (second-held _ _ _ (c .before .before .if2 .taken)) (pre .0 .0))
 
 answer-places-requires-2 : tie.Need-answer-places-requires-2
 answer-places-requires-2 c κs =
-    let pre = c .before .before .before .before .before .before .before .pre in
-    (map-sound _ _ _ _ _ (pre .1) (sym (c .before .before .before .before .is-empty .ensures) ∙ c .before .before .before .if1 .left) (first-held _ _ _ (c .before .if2 .left)), pre .0 .1, pre .0 .2)
+    let map = c .before .before .before in
+    let some = sym (map .before .is-empty .ensures) ∙ map .if1 .left in
+    let pre = map .before .before .before .before .pre in
+    (map-sound _ _ _ _ _ (pre .1) some (first-held _ _ _ (c .before .if2 .left)), pre .0 .1, pre .0 .2)
 
 returns-3 : tie.Need-returns-3
 returns-3 c =
-    let pre = c .before .before .before .before .before .before .before .before .pre in
+    let map = c .before .before .before .before in
+    let some = sym (map .before .is-empty .ensures) ∙ map .if1 .left in
+    let pre = map .before .before .before .before .pre in
     c .answer-places2 .ensures .went _ _ _ refl
-    (map-shows _ _ _ _ _ (pre .1) (sym (c .before .before .before .before .before .is-empty .ensures) ∙ c .before .before .before .before .if1 .left) (first-held _ _ _ (c .before .before .if2 .left)) (pre .0 .0))
+    (map-shows _ _ _ _ _ (pre .1) some (first-held _ _ _ (c .before .before .if2 .left)) (pre .0 .0))
 
 pub answer-wheres-spec : {M : Type 1} → statement M
 answer-wheres-spec =
