@@ -218,7 +218,7 @@ fn answer(
             second_blocks,
             second_adjustments,
             out,
-            at,
+            spot.put,
         );
         at = reply.at;
         let state = reply.state;
