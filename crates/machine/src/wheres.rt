@@ -53,7 +53,7 @@ fn answer_places(
     }
 }
 
-// The same of a machine with no list in progress: on its map, if it has one.
+// The same of a machine with no list in progress: on its map, if it has one. Another line costs a look at its first byte.
 pub fn answer_wheres(
     m: Machine,
     block: &[u8],
@@ -72,8 +72,14 @@ pub fn answer_wheres(
     requires { ⌜ SaneNow m tops ends blocks adjustments «second_tops» «second_ends» «second_blocks» «second_adjustments» ⌝ }
     ensures { λ r. ⌜ AnswersWheres m block tops ends blocks adjustments «second_tops» «second_ends» «second_blocks» «second_adjustments» put out r ⌝ }
 {
-    let state = m.state;
     let from = m.from;
+    if block.len() <= from {
+        return Spot { from, put };
+    }
+    if block[from] != b'w' {
+        return Spot { from, put };
+    }
+    let state = m.state;
     if is_empty(state) {
         return Spot { from, put };
     }
