@@ -111,6 +111,25 @@ module _ {e : ℕ} {l : List ℕ} {from end v : ℕ} (s : Digits e l from end v)
           fits = omega (arith, digits-value);
         })
 
+  -- no number: a byte that is no digit, a value above the limit, no digit at all, too many digits
+  pub not-digit
+      : (i : end < length l) → (getD l end 0 ≡ e → ⊥) → (48 ≤ getD l end 0 → getD l end 0 ≤ 57 → ⊥)
+      → isNumber (upTo e (drop from l)) ≡ true → ⊥
+  not-digit i b h t =
+      let all = sym (ap digitsOnly (next i b)) ∙ sym (s .digits) ∙ number-is _ t .digits in
+      let d = first-digit (getD l end 0) (upTo e (drop (end + 1) l)) all in
+      h (d .0) (d .1)
+
+  pub too-large : 4_294_967_295 < v → isNumber (upTo e (drop from l)) ≡ true → ⊥
+  too-large h t = omega (arith, number-is _ t .fits, s .values, value-grows v (upTo e (drop end l)))
+
+  pub none-there : upTo e (drop end l) ≡ [] → end ≡ from → isNumber (upTo e (drop from l)) ≡ true → ⊥
+  none-there none h t = omega (arith, number-is _ t .some, digits-ended none)
+
+  pub too-many
+      : (i : end < length l) → (getD l end 0 ≡ e → ⊥) → from + 10 ≤ end → isNumber (upTo e (drop from l)) ≡ true → ⊥
+  too-many i b h t = omega (arith, number-is _ t .few, s .reached .ends, ap length (next i b))
+
 -- n digits at once
 pub digits-run
     : {e : ℕ} {l : List ℕ} {from : ℕ} (n end v : ℕ) → Digits e l from end v → end + n ≤ length l → e < 48
@@ -140,21 +159,15 @@ not-number l from h = ⊎-elim (λ t. absurd (h (t .0))) (λ t. rw (t .0)) (bit-
 module _ {l : List ℕ} {from end v : ℕ} (s : Digits 32 l from end v) where
   pub digits-wrong
       : end < length l → (getD l end 0 ≡ 32 → ⊥) → (48 ≤ getD l end 0 → getD l end 0 ≤ 57 → ⊥) → numberAt l from ≡ Other
-  digits-wrong i b h =
-      not-number l from
-      (λ t.
-      let d =
-      first-digit (getD l end 0) (wordAt l (end + 1)) (sym (ap digitsOnly (span-next 32 l end i b)) ∙ sym (s .digits) ∙ number-is _ t .digits)
-      in
-      h (d .0) (d .1))
+  digits-wrong i b h = not-number l from (not-digit s i b h)
 
   pub digits-large : 4_294_967_295 < v → numberAt l from ≡ Other
-  digits-large h = not-number l from (λ t. omega (arith, number-is _ t .fits, s .values, value-grows v (wordAt l end)))
+  digits-large h = not-number l from (too-large s h)
 
   -- at the word's end
   module _ (e : wordAt l end ≡ []) where
     pub digits-empty : end ≡ from → numberAt l from ≡ Other
-    digits-empty h = not-number l from (λ t. omega (arith, number-is _ t .some, digits-ended s e))
+    digits-empty h = not-number l from (none-there s e h)
 
     pub digits-many : 10 < end - from → numberAt l from ≡ Other
     digits-many h = not-number l from (λ t. omega (arith, number-is _ t .few, digits-ended s e))

@@ -1,5 +1,5 @@
 -- Where lines and words end, and the parts of a line as the functions of this crate read them. Assumes nothing.
-use Prim.Native.Nat.{ℕ, _+_, _<_}
+use Prim.Native.Nat.{ℕ, _+_, _<_, _≤_}
 use mathlib.Core.Path.{_≡_}
 use mathlib.Core.Bool.{Bool, true}
 use mathlib.Core.List.{List, [], _∷_}
@@ -61,7 +61,15 @@ pub record AsksFor (l : List ℕ) (i b end : ℕ) : Type 0 where
   pub ends : end ≡ i + length (upToFeed (drop i l))
   pub reads : read (upToFeed (drop i l)) ≡ Where b
 
--- what holds of a bucket and a place, where they are given
-unfoldable pub onBucket : (ℕ → ℕ → Type 0) → Asked → Type 0
-onBucket p (asked.Bucket b end) = p b end
-onBucket p asked.Other = Unit {0}
+-- the bytes from place i up to the next line feed are no number
+abbrev pub NoDigits : List ℕ → ℕ → Type 0
+NoDigits l i = isNumber (upToFeed (drop i l)) ≡ true → ⊥
+
+-- the line from place i on asks for no bucket, if the block has as many bytes left as the longest line that does
+abbrev pub AsksForNone : List ℕ → ℕ → Type 0
+AsksForNone l i = i + 17 ≤ length l → (b : ℕ) → read (upToFeed (drop i l)) ≡ Where b → ⊥
+
+-- what holds of a bucket and a place, and what holds where there is none
+unfoldable pub byAsked : (ℕ → ℕ → Type 0) → Type 0 → Asked → Type 0
+byAsked p none (asked.Bucket b end) = p b end
+byAsked p none asked.Other = none

@@ -4,7 +4,7 @@ ghost use mathlib.Core.Path.{_≡_};
 ghost use mathlib.Core.Bool.{true};
 ghost use lib.ListN.{length};
 ghost use Rattle.model.specs.Console.{text as textOf, same, digitsOnly, value};
-ghost use Rattle.lines.specs.Words.{isDigit, bytesAt, DigitsTo, AsksFor, onBucket};
+ghost use Rattle.lines.specs.Words.{isDigit, bytesAt, DigitsTo, NoDigits, AsksFor, AsksForNone, byAsked};
 
 // The bucket that a line asks for, and the place of the line feed behind it; or any other line.
 pub enum Asked {
@@ -58,7 +58,7 @@ fn eight(text: &[u8], at: usize) -> u32
 // The number at a place, up to a line feed.
 fn bucket_at(block: &[u8], first: usize) -> Asked
     requires { ⌜ first + 10 < length (now block) ⌝ }
-    ensures { λ r. ⌜ onBucket (DigitsTo (now (block .entry)) first) r ⌝ }
+    ensures { λ r. ⌜ byAsked (DigitsTo (now (block .entry)) first) (NoDigits (now (block .entry)) first) r ⌝ }
 {
     let mut value: u64 = 0;
     let mut end = first;
@@ -111,7 +111,7 @@ fn says_where(text: &[u8], at: usize) -> bool
 // What the line at a place asks for. The last bytes of a block, fewer than the longest `where` line has, are no such line.
 pub fn where_at(block: &[u8], from: usize) -> Asked
     requires { ⌜ from ≤ length (now block) ⌝ }
-    ensures { λ r. ⌜ onBucket (AsksFor (now (block .entry)) from) r ⌝ }
+    ensures { λ r. ⌜ byAsked (AsksFor (now (block .entry)) from) (AsksForNone (now (block .entry)) from) r ⌝ }
 {
     if block.len() - from < 17 {
         return Asked::Other;

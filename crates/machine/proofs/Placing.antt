@@ -10,7 +10,7 @@ use Rattle.model.specs.Table.{Table, Arrays, table}
 use Rattle.model.specs.Sound.{Sound}
 use Rattle.model.specs.Console.{read, commandAnswer}
 use Rattle.model.specs.declared.command.Command.the-variants.{Where}
-use Rattle.lines.specs.Words.{upToFeed, AsksFor, onBucket}
+use Rattle.lines.specs.Words.{upToFeed, AsksFor, AsksForNone, byAsked}
 use Rattle.lines.specs.declared.asked.Asked.{Asked}
 use Rattle.lines.specs.declared.asked.Asked.the-variants.{Bucket}
 use Rattle.lines.proofs.Spans.{span-first}
@@ -69,9 +69,9 @@ module _ (m : Machine) (one two : Arrays) (t : Table) (s : Shows m (rack (m .sta
 
 -- an answer that is a bucket
 pub asked-for
-    : {bytes : List ℕ} {from b end : ℕ} {r : Asked} → onBucket (AsksFor bytes from) r → r ≡ Bucket b end → AsksFor bytes from b end
-unfolding onBucket
-asked-for {bytes} {from} h e = subst (onBucket (AsksFor bytes from)) e h
+    : {bytes : List ℕ} {from b end : ℕ} {r : Asked} → byAsked (AsksFor bytes from) (AsksForNone bytes from) r → r ≡ Bucket b end → AsksFor bytes from b end
+unfolding byAsked
+asked-for {bytes} {from} h e = subst (byAsked (AsksFor bytes from) (AsksForNone bytes from)) e h
 
 shows-on : (m : Machine) (k : Rack) (t : Table) (from : ℕ) → Shows m k t → Shows (onTo m from) k t
 shows-on m k t from s =

@@ -3,9 +3,10 @@ use Prim.Native.Nat.{_+_, _-_, _≤_}
 use mathlib.Core.Path.{sym, _∙_}
 use mathlib.Core.Logic.{⊎-elim}
 use native.Mathlib.Omega.{arith}
-use Rattle.lines.proofs.Numbers.{Digits, digits-more}
+use Rattle.lines.proofs.Numbers.{Digits, digits-more, not-digit, too-large, too-many, none-there}
+use Rattle.lines.proofs.Spans.{none-at}
 use Rattle.lines.proofs.Asking.{eight-passed, none-passed, digits-to}
-use Rattle.lines.specs.Words.{onBucket}
+use Rattle.lines.specs.Words.{byAsked}
 use Rattle.lines.proofs.asked.bucket_at.Statement.{statement}
 use Rattle.lines.proofs.asked.bucket_at.Tie as tie
 
@@ -67,22 +68,34 @@ shared-slice-read-if5 : tie.Need-shared-slice-read-if5 Inv-loop μ-loop
 shared-slice-read-if5 c = omega arith
 
 returns : tie.Need-returns Inv-loop μ-loop
-unfolding onBucket
-returns c = tt
+unfolding byAsked
+returns c t =
+    let left = c .before .before in
+    let s = left .before .loop .inv .0 in
+    ⊎-elim
+    (λ w. too-many s (omega arith) (c .if5 .taken) (omega (arith, w .left)) t)
+    (⊎-elim
+    (λ w. not-digit s (omega arith) (c .if5 .taken) (λ h k. omega (arith, w .2 .taken)) t)
+    (⊎-elim
+    (λ w. not-digit s (omega arith) (c .if5 .taken) (λ h k. omega (arith, w .3 .taken)) t)
+    (λ w. too-large s (w .4 .taken) t)))
+    (left .loop-test .came)
 
 returns-2 : tie.Need-returns-2 Inv-loop μ-loop
-unfolding onBucket
-returns-2 c = tt
+unfolding byAsked
+returns-2 c t =
+    let s = c .before .before .before .before .loop .inv .0 in
+    none-there s (none-at (s .reached) (omega arith) (omega arith)) (c .if6 .taken) t
 
 returns-3 : tie.Need-returns-3 Inv-loop μ-loop
-unfolding onBucket
-returns-3 c = tt
+unfolding byAsked
+returns-3 c t = too-large (c .before .before .before .before .before .loop .inv .0) (c .if7 .taken) t
 
 cast-t17 : tie.Need-cast-t17 Inv-loop μ-loop
 cast-t17 c = omega arith
 
 returns-4 : tie.Need-returns-4 Inv-loop μ-loop
-unfolding onBucket
+unfolding byAsked
 returns-4 c =
     let inv = c .before .before .before .before .before .before .loop .inv in
     digits-to (inv .0) (omega arith) (omega arith) (λ e. omega arith) (inv .1) (omega arith)
