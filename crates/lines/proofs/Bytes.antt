@@ -1,12 +1,13 @@
--- Laws of bytes at a place of a text: each by itself, and eight digits by pairs. Assumes nothing.
-use Prim.Native.Nat.{ℕ, suc, _+_, _-_, _*_, _≤_, _<_}
+-- Laws of bytes at a place of a text: each by itself, and eight digits by fours. Assumes nothing.
+use Prim.Native.Nat.{ℕ, suc, _+_, _-_, _*_, _/_, _%_, _≤_, _<_}
 use mathlib.Core.Path.{_≡_, refl, sym, _∙_, ap}
 use mathlib.Core.Bool.{Bool, true, false, _&&_}
-use mathlib.Core.List.{List, [], _∷_}
+use mathlib.Core.List.{List, [], _∷_, _++_}
+use native.Mathlib.Nat.{add-zero, div-eq-of-lt, mod-eq-of-lt, mul-add-div, mul-add-mod-self-left}
 use native.Mathlib.Numerals.{add-one}
 use native.Mathlib.Omega.{arith}
-use lib.ListN.{length, getD}
-use lib.Seq.{drop-cons}
+use lib.ListN.{length, take, drop, getD}
+use lib.Seq.{drop-cons, drop-drop, take-add}
 use lib.Dec.{eqb}
 use borrow.Author.Tests.{leb-true}
 use Rattle.model.specs.Basics.{_and_}
@@ -99,90 +100,117 @@ where-same l i h =
     ∙ same-next l (i + 5) (i + 6) 0 (omega arith) (omega arith) _ 32 _
     ∙ all-same _ l (i + 6))
 
--- EIGHT DIGITS BY PAIRS
+-- EIGHT DIGITS BY FOURS
 
--- two digits at place i, and what they are worth
-pub record Pair (l : List ℕ) (i : ℕ) : Type 0 where
-  pub digits : digitsOnly (bytesAt l i 2) ≡ true
-  pub one : (48 ≤ getD l i 0) × (getD l i 0 ≤ 57)
-  pub two : (48 ≤ getD l (i + 1) 0) × (getD l (i + 1) 0 ≤ 57)
-  pub is : value (bytesAt l i 2) + 528 ≡ 10 * getD l i 0 + getD l (i + 1) 0
-  pub small : value (bytesAt l i 2) ≤ 99
+-- a number by its quotient and its remainder
+module _ (m x q r : ℕ) (e : x ≡ m * q + r) (h : r < m) where
+  quotient : x / m ≡ q
+  quotient = ap (λ x. x / m) e ∙ mul-add-div (omega arith) q r ∙ rw (div-eq-of-lt h) (add-zero q)
 
-module _ (l : List ℕ) (i j n : ℕ) (h : i + 2 ≤ length l) (e : j ≡ i + 2) where
-  two-digits
-      : digitsOnly (bytesAt l i (suc (suc n)))
-      ≡ isDigit (getD l i 0) and (isDigit (getD l (i + 1) 0) and digitsOnly (bytesAt l j n))
-  two-digits =
-      digits-first l i (i + 1) (suc n) (omega arith) refl
-      ∙ ap (λ b. isDigit (getD l i 0) and b) (digits-first l (i + 1) j n (omega arith) (omega arith))
+  remainder : x % m ≡ r
+  remainder = ap (λ x. x % m) e ∙ mul-add-mod-self-left m q r ∙ mod-eq-of-lt h
 
-  two-value
-      : (v : ℕ)
-      → valueFrom v (bytesAt l i (suc (suc n)))
-      ≡ valueFrom (10 * (10 * v + (getD l i 0 - 48)) + (getD l (i + 1) 0 - 48)) (bytesAt l j n)
-  unfolding valueFrom
-  two-value v =
-      ap (valueFrom v) (bytes-next l i (i + 1) (suc n) (omega arith) refl)
-      ∙ ap (valueFrom (10 * v + (getD l i 0 - 48))) (bytes-next l (i + 1) j n (omega arith) (omega arith))
+-- four digits: their bytes, and what they are worth
+pub record Four (l : List ℕ) (i : ℕ) : Type 0 where
+  pub a : (48 ≤ getD l i 0) × (getD l i 0 ≤ 57)
+  pub b : (48 ≤ getD l (i + 1) 0) × (getD l (i + 1) 0 ≤ 57)
+  pub c : (48 ≤ getD l (i + 2) 0) × (getD l (i + 2) 0 ≤ 57)
+  pub d : (48 ≤ getD l (i + 3) 0) × (getD l (i + 3) 0 ≤ 57)
+  pub is : value (bytesAt l i 4) + 53_328 ≡ 1_000 * getD l i 0 + 100 * getD l (i + 1) 0 + 10 * getD l (i + 2) 0 + getD l (i + 3) 0
+  pub small : value (bytesAt l i 4) ≤ 9_999
 
-pub pair-at : (l : List ℕ) (i : ℕ) → i + 2 ≤ length l → digitsOnly (bytesAt l i 2) ≡ true → Pair l i
-unfolding value valueFrom
-pair-at l i h d =
-    let t = sym (two-digits l i (i + 2) 0 h refl) ∙ d in
-    let one = digit-is _ (and-left _ _ t) in
-    let two = digit-is _ (and-left _ _ (and-right _ _ t)) in
-    let is = two-value l i (i + 2) 0 h refl 0 in
-    record { digits = d; one = one; two = two; is = omega (arith, is, one, two); small = omega (arith, is, one, two) }
+module _ (l : List ℕ) (i : ℕ) (h : i + 4 ≤ length l) where
+  four-bytes : bytesAt l i 4 ≡ getD l i 0 ∷ getD l (i + 1) 0 ∷ getD l (i + 2) 0 ∷ getD l (i + 3) 0 ∷ []
+  four-bytes =
+      bytes-next l i (i + 1) 3 (omega arith) refl
+      ∙ ap (λ (w : List ℕ). getD l i 0 ∷ w)
+      (bytes-next l (i + 1) (i + 2) 2 (omega arith) (omega arith)
+      ∙ ap (λ (w : List ℕ). getD l (i + 1) 0 ∷ w)
+      (bytes-next l (i + 2) (i + 3) 1 (omega arith) (omega arith)
+      ∙ ap (λ (w : List ℕ). getD l (i + 2) 0 ∷ w) (bytes-next l (i + 3) (i + 4) 0 (omega arith) (omega arith))))
 
-module _ (l : List ℕ) (i j n : ℕ) (h : i + 2 ≤ length l) (e : j ≡ i + 2) (d : digitsOnly (bytesAt l i (suc (suc n))) ≡ true) where
-  first-pair : Pair l i
-  unfolding digitsOnly
-  first-pair =
-      let t = sym (two-digits l i j n h e) ∙ d in
-      pair-at l i h
-      (two-digits l i (i + 2) 0 h refl
-      ∙ and-both _ _ (and-left _ _ t) (and-both _ _ (and-left _ _ (and-right _ _ t)) refl))
+  -- behind a number x
+  from-four : (x : ℕ) → valueFrom x (bytesAt l i 4) ≡ 10_000 * x + value (bytesAt l i 4)
+  unfolding value valueFrom
+  from-four x = rw four-bytes (omega arith)
 
-  next-pairs : digitsOnly (bytesAt l j n) ≡ true
-  next-pairs = let t = sym (two-digits l i j n h e) ∙ d in and-right _ _ (and-right _ _ t)
+  pub four-at : digitsOnly (bytesAt l i 4) ≡ true → Four l i
+  unfolding value valueFrom digitsOnly isDigit
+  four-at t =
+      let all = sym (ap digitsOnly four-bytes) ∙ t in
+      let more = and-right _ _ all in
+      let last = and-right _ _ more in
+      let a = digit-is (getD l i 0) (and-left _ _ all) in
+      let b = digit-is (getD l (i + 1) 0) (and-left _ _ more) in
+      let c = digit-is (getD l (i + 2) 0) (and-left _ _ last) in
+      let d = digit-is (getD l (i + 3) 0) (and-left _ _ (and-right _ _ last)) in
+      let is = ap value four-bytes in
+      record { a = a; b = b; c = c; d = d; is = omega (arith, is, a, b, c, d); small = omega (arith, is, a, b, c, d) }
 
-  pair-value : (v : ℕ) → valueFrom v (bytesAt l i (suc (suc n))) ≡ valueFrom (100 * v + value (bytesAt l i 2)) (bytesAt l j n)
-  pair-value v =
-      let p = first-pair in
-      let w : 10 * (10 * v + (getD l i 0 - 48)) + (getD l (i + 1) 0 - 48) ≡ 100 * v + value (bytesAt l i 2) =
-      omega (arith, p .is, p .one, p .two)
+-- four digits in the bytes of one number w, and their pairs in those of its sum with ten times itself, shifted by a byte
+module _ (a b c d w : ℕ) (small : (a ≤ 9) × (b ≤ 9) × (c ≤ 9) × (d ≤ 9)) (is : w ≡ a + 256 * b + 65_536 * c + 16_777_216 * d) where
+  shifted : w / 256 ≡ b + 256 * c + 65_536 * d
+  shifted = quotient 256 w (b + 256 * c + 65_536 * d) a (omega arith) (omega (arith, small))
+
+  summed : 10 * w + w / 256 ≡ 256 * (10 * b + c + 256 * (10 * c + d) + 65_536 * (10 * d)) + (10 * a + b)
+  summed = omega (arith, shifted, is)
+
+  first-pair : (10 * w + w / 256) % 256 ≡ 10 * a + b
+  first-pair = remainder 256 _ _ (10 * a + b) summed (omega (arith, small))
+
+  last-pair : (10 * w + w / 256) / 65_536 % 256 ≡ 10 * c + d
+  last-pair =
+      let over : (10 * w + w / 256) / 65_536 ≡ 256 * (10 * d) + (10 * c + d) =
+      quotient 65_536 _ _ (10 * a + b + 256 * (10 * b + c)) (summed ∙ omega arith) (omega (arith, small))
       in
-      two-value l i j n h e v ∙ ap (λ x. valueFrom x (bytesAt l j n)) w
+      remainder 256 _ _ (10 * c + d) over (omega (arith, small))
 
--- the pairs of eight digits
+  pairs-value : 100 * ((10 * w + w / 256) % 256) + (10 * w + w / 256) / 65_536 % 256 ≡ 1_000 * a + 100 * b + 10 * c + d
+  pairs-value = rw (first-pair, last-pair) (omega arith)
+
+pub four-value
+    : {l : List ℕ} {i : ℕ} → Four l i → (w : ℕ)
+    → w ≡ getD l i 0 + 256 * getD l (i + 1) 0 + 65_536 * getD l (i + 2) 0 + 16_777_216 * getD l (i + 3) 0 - 808_464_432
+    → 100 * ((10 * w + w / 256) % 256) + (10 * w + w / 256) / 65_536 % 256 ≡ value (bytesAt l i 4)
+four-value {l} {i} f w e =
+    pairs-value (getD l i 0 - 48) (getD l (i + 1) 0 - 48) (getD l (i + 2) 0 - 48) (getD l (i + 3) 0 - 48) w
+    (omega (arith, f .a), omega (arith, f .b), omega (arith, f .c), omega (arith, f .d))
+    (omega (arith, f .a, f .b, f .c, f .d))
+    ∙ omega (arith, f .is, f .a, f .b, f .c, f .d)
+
+-- digits, and more of them
+digits-both : (u v : List ℕ) → digitsOnly (u ++ v) ≡ true → (digitsOnly u ≡ true) × (digitsOnly v ≡ true)
+unfolding digitsOnly
+digits-both [] v h = (refl, h)
+digits-both (c ∷ u) v h = let t = digits-both u v (and-right _ _ h) in (and-both _ _ (and-left _ _ h) (t .0), t .1)
+
+value-both : (x : ℕ) (u v : List ℕ) → valueFrom x (u ++ v) ≡ valueFrom (valueFrom x u) v
+unfolding valueFrom
+value-both x [] v = refl
+value-both x (c ∷ u) v = value-both (10 * x + (c - 48)) u v
+
+-- eight digits: the fours, and what they are worth
 pub record Eight (l : List ℕ) (i : ℕ) : Type 0 where
-  pub first : Pair l i
-  pub second : Pair l (i + 2)
-  pub third : Pair l (i + 4)
-  pub fourth : Pair l (i + 6)
-  pub is
-      : value (bytesAt l i 8)
-      ≡ 10_000 * (100 * value (bytesAt l i 2) + value (bytesAt l (i + 2) 2))
-      + (100 * value (bytesAt l (i + 4) 2) + value (bytesAt l (i + 6) 2))
+  pub first : digitsOnly (bytesAt l i 4) ≡ true
+  pub second : digitsOnly (bytesAt l (i + 4) 4) ≡ true
+  pub high : value (bytesAt l i 4) ≤ 9_999
+  pub low : value (bytesAt l (i + 4) 4) ≤ 9_999
+  pub is : value (bytesAt l i 8) ≡ 10_000 * value (bytesAt l i 4) + value (bytesAt l (i + 4) 4)
 
 pub eight-at : (l : List ℕ) (i : ℕ) → i + 8 ≤ length l → digitsOnly (bytesAt l i 8) ≡ true → Eight l i
-unfolding value valueFrom
-eight-at l i h d =
-    let d₂ = next-pairs l i (i + 2) 6 (omega arith) refl d in
-    let d₄ = next-pairs l (i + 2) (i + 4) 4 (omega arith) (omega arith) d₂ in
-    let d₆ = next-pairs l (i + 4) (i + 6) 2 (omega arith) (omega arith) d₄ in
+unfolding value
+eight-at l i h t =
+    let halves : bytesAt l i 8 ≡ bytesAt l i 4 ++ bytesAt l (i + 4) 4 =
+    take-add 4 4 (drop i l) ∙ ap (λ (r : List ℕ). bytesAt l i 4 ++ take 4 r) (drop-drop 4 i l)
+    in
+    let both = digits-both (bytesAt l i 4) (bytesAt l (i + 4) 4) (sym (ap digitsOnly halves) ∙ t) in
     record {
-      first = first-pair l i (i + 2) 6 (omega arith) refl d;
-      second = first-pair l (i + 2) (i + 4) 4 (omega arith) (omega arith) d₂;
-      third = first-pair l (i + 4) (i + 6) 2 (omega arith) (omega arith) d₄;
-      fourth = first-pair l (i + 6) (i + 8) 0 (omega arith) (omega arith) d₆;
+      first = both .0;
+      second = both .1;
+      high = four-at l i (omega arith) (both .0) .small;
+      low = four-at l (i + 4) (omega arith) (both .1) .small;
       is =
-          omega (
-            arith,
-            pair-value l i (i + 2) 6 (omega arith) refl d 0
-                ∙ pair-value l (i + 2) (i + 4) 4 (omega arith) (omega arith) d₂ _
-                ∙ pair-value l (i + 4) (i + 6) 2 (omega arith) (omega arith) d₄ _
-                ∙ pair-value l (i + 6) (i + 8) 0 (omega arith) (omega arith) d₆ _,
-          );
+          ap (valueFrom 0) halves
+          ∙ value-both 0 (bytesAt l i 4) (bytesAt l (i + 4) 4)
+          ∙ from-four l (i + 4) (omega arith) (valueFrom 0 (bytesAt l i 4));
     }

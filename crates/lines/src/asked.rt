@@ -37,22 +37,27 @@ fn eight_digits(text: &[u8], at: usize) -> bool
         & is_digit(text[at + 7])
 }
 
-// The value of two digits: 528 is that of two zeros' codes.
-fn pair(text: &[u8], at: usize) -> u32
-    requires { ⌜ (at + 2 ≤ length (now text)) × (digitsOnly (bytesAt (now text) at 2) ≡ true) ⌝ }
-    ensures { λ r. ⌜ r ≡ value (bytesAt (now (text .entry)) at 2) ⌝ }
+// The value of four digits. They are read as one number, of which each byte is a digit; of its sum with ten times itself, shifted by
+// a byte, each second byte is the value of a pair.
+fn four(text: &[u8], at: usize) -> u32
+    requires { ⌜ (at + 4 ≤ length (now text)) × (digitsOnly (bytesAt (now text) at 4) ≡ true) ⌝ }
+    ensures { λ r. ⌜ r ≡ value (bytesAt (now (text .entry)) at 4) ⌝ }
 {
-    10 * text[at] as u32 + text[at + 1] as u32 - 528
+    let a = text[at] as u32;
+    let b = text[at + 1] as u32;
+    let c = text[at + 2] as u32;
+    let d = text[at + 3] as u32;
+    let digits = a + 256 * b + 65_536 * c + 16_777_216 * d - 808_464_432;
+    let pairs = 10 * digits + digits / 256;
+    100 * (pairs % 256) + pairs / 65_536 % 256
 }
 
-// The value of eight digits: pairs that do not wait for each other.
+// The value of eight digits: fours that do not wait for each other.
 fn eight(text: &[u8], at: usize) -> u32
     requires { ⌜ (at + 8 ≤ length (now text)) × (digitsOnly (bytesAt (now text) at 8) ≡ true) ⌝ }
     ensures { λ r. ⌜ r ≡ value (bytesAt (now (text .entry)) at 8) ⌝ }
 {
-    let high = 100 * pair(text, at) + pair(text, at + 2);
-    let low = 100 * pair(text, at + 4) + pair(text, at + 6);
-    10_000 * high + low
+    10_000 * four(text, at) + four(text, at + 4)
 }
 
 // The number at a place, up to a line feed.
