@@ -1,2 +1,3 @@
+pub mod Wheres
 pub mod Serving
 pub mod Rows

@@ -5,10 +5,13 @@ use mathlib.Core.List.{List}
 use lib.ListN.{length}
 use lib.Seq.{sets}
 use Rattle.model.specs.Basics.{if_then_else_}
-use Rattle.model.specs.Table.{Arrays}
+use Rattle.model.specs.Table.{Table, Arrays}
 use Rattle.model.specs.Lent.{Lent, Lents, arraysNow, given, left}
+use Rattle.model.specs.Search.{placeAt}
+use Rattle.model.specs.Calls.{answer}
 use Rattle.model.specs.Console.{read, movesOf, commandAnswer}
 use Rattle.model.specs.declared.answer.Answer.{Answer}
+use Rattle.model.specs.declared.answer.Answer.the-variants as says
 use Rattle.session.specs.Maps.{Maps, maps, session, next, shown, isList, Right}
 use Rattle.session.specs.declared.state.State.{State}
 use Rattle.console.specs.declared.Reply.{Reply}
@@ -46,6 +49,13 @@ movesIn k = movesOf (session (held k))
 -- the answer to a line
 unfoldable pub answerTo : Rack → List ℕ → Answer
 answerTo k l = commandAnswer (session (held k)) (read l)
+
+-- the answer to `where x` on the map t
+unfoldable pub whereAnswer : Table → ℕ → Answer
+whereAnswer t x =
+    answer (placeAt t x .refusal)
+    (says.Place (placeAt t x .bin) (placeAt t x .position))
+    (says.Refused (placeAt t x .refusal))
 
 -- a line l served: its reply r and the rack k′ after it; what it prints at once is stored in a buffer from place x on
 pub record Served (k : Rack) (l : List ℕ) (x : ℕ) (old : List ℕ) (r : Reply) (k′ : Rack) (new : List ℕ) : Type 0 where

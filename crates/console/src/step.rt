@@ -3,6 +3,7 @@ use crate::Reply;
 use model::answer::Answer;
 use model::limits::BLOCKS;
 use model::limits::INTERVALS;
+use model::table::Header;
 use print::put_bucket;
 use print::put_ok;
 use print::put_place;
@@ -14,9 +15,10 @@ ghost use mathlib.Core.Path.{_≡_};
 ghost use Prim.Native.Nat.{_+_, _≤_};
 ghost use lib.ListN.{length};
 ghost use lib.Seq.{sets};
+ghost use Rattle.model.specs.Lent.{LentSound, tableGiven};
 ghost use Rattle.print.specs.Numbers.{lineRoom};
 ghost use Rattle.session.specs.Maps.{shown, isList};
-ghost use Rattle.console.specs.Rack.{rackGiven, rackLeft, RackRight, Served};
+ghost use Rattle.console.specs.Rack.{rackGiven, rackLeft, RackRight, Served, whereAnswer};
 
 // What was done, answered; the `move` lines are listed apart.
 fn reply(done: Step, out: &mut [u8], at: usize) -> Reply
@@ -53,6 +55,28 @@ fn reply(done: Step, out: &mut [u8], at: usize) -> Reply
             list: true,
         },
     }
+}
+
+// The reply to `where` on a map. The place behind it.
+pub fn put_where(
+    h: Header,
+    tops: &[u32],
+    ends: &[u32],
+    blocks: &[u32],
+    adjustments: &[u32],
+    bucket: u32,
+    out: &mut [u8],
+    at: usize,
+) -> usize
+    requires { ⌜ (at + lineRoom ≤ length (now out)) × LentSound h tops ends blocks adjustments ⌝ }
+    ensures place { λ r. ⌜ r ≡ at + length (shown (whereAnswer (tableGiven h tops ends blocks adjustments) bucket)) ⌝ }
+    ensures bytes { λ _. ⌜ now (out .exit) ≡ sets (now (out .entry)) at (shown (whereAnswer (tableGiven h tops ends blocks adjustments) bucket)) ⌝ }
+{
+    let reply = lookup::placed(h, tops, ends, blocks, adjustments, bucket);
+    if reply.refusal != 0 {
+        return put_refused(reply.refusal, out, at);
+    }
+    put_place(reply.bin, reply.position, out, at)
 }
 
 // One line of a session: what it prints goes to `out` from `at` on.

@@ -1,4 +1,6 @@
 // The program's lines: cut from the input, and read.
+pub mod asked;
+
 ghost use Prim.Native.Nat.{_+_, _≤_};
 ghost use mathlib.Core.Path.{_≡_};
 ghost use lib.ListN.{length, take, drop};

@@ -8,10 +8,10 @@ use lib.ListN.{length, take, drop, length-append, length-take, length-drop}
 use lib.Seq.{sets, sets-eq, length-sets, take-all, take-at, length-take-le, drop-drop}
 use lib.Dec.{ltb}
 use borrow.Author.Tests.{lt-ltb, le-ltb}
-use Rattle.model.specs.Basics.{joined}
+use Rattle.model.specs.Basics.{if_then_else_, joined}
 use Rattle.model.specs.Table.{Arrays, over}
 use Rattle.model.specs.Relocations.{page}
-use Rattle.model.specs.Console.{read, line, text, after, printed, moveText}
+use Rattle.model.specs.Console.{Session, read, line, text, after, printed, moveText}
 use Rattle.model.proofs.Pages.{page-length}
 use Rattle.lines.specs.Words.{upToFeed}
 use Rattle.lines.proofs.Cutting.{front-unfinished}
@@ -145,6 +145,12 @@ page-none m k out l sane =
 
 -- A LINE
 
+-- a list that begins does so with its first row
+list-first : (follow : Bool) (row : ℕ) (s : Session) → (follow ≡ true → row ≡ 0) → listed follow row s ≡ listed follow 0 s
+unfolding listed if_then_else_
+list-first true row s first = ap (λ q. listed true q s) (first refl)
+list-first false row s first = refl
+
 -- a line feed stands in the bytes, or their end
 pub end-within
     : (from end : ℕ) (bytes : List ℕ) → from ≤ length bytes → end ≡ from + length (upToFeed (drop from bytes)) → end ≤ length bytes
@@ -170,7 +176,7 @@ module _
         (put x : ℕ) (out l : List ℕ) (r : Reply) (one two : Arrays) (out′ : List ℕ) (some : end ≡ length bytes → ⊥)
         (line : l ≡ take (end - m .from) (drop (m .from) bytes)) (sane : Sane m k)
         (room : put + lineRoom ≤ length out) (s : Served k l x out r (rack (r .state) one two) out′)
-        (row from : ℕ) (behind : x ≡ put) (first : row ≡ 0) (past : from ≡ end + 1)
+        (row from : ℕ) (behind : x ≡ put) (first : r .list ≡ true → row ≡ 0) (past : from ≡ end + 1)
       where
         abbrev next : Machine
         next = record { state = r .state; listing = r .list; row = row; from = from; size = m .size }
@@ -193,7 +199,7 @@ module _
             ≡ take put out ++ printed (session (held k)) l
         unfolding answerTo
         said-line =
-            rw (first, obeyed, s .bytes, s .list, ← behind)
+            rw (list-first (r .list) row (session (held (rack (r .state) one two))) first, obeyed, s .bytes, s .list, ← behind)
             (ap (λ (t : List ℕ). t ++ listed (isList (answerTo k l)) 0 (after (session (held k)) l))
             (stored out (shown (answerTo k l)) x (r .at) (s .place) (omega (arith, s .place, shown-short (answerTo k l))))
             ∙ append-assoc (take x out) (shown (answerTo k l)) (listed (isList (answerTo k l)) 0 (after (session (held k)) l))
@@ -206,7 +212,7 @@ module _
               goes =
                   line-goes {s = stands m k bytes} {s′ = stands next (rack (r .state) one two) bytes} l line-same none
                   (omega (arith, end-within (m .from) end bytes within at, length-drop (m .from) bytes)) obeyed next-line said-line;
-              sane = record { right = subst Right (sym (s .maps)) (right-next (held k) (sane .right) (read l)); row = λ e. omega arith };
+              sane = record { right = subst Right (sym (s .maps)) (right-next (held k) (sane .right) (read l)); row = λ e. omega (arith, first e) };
               room = omega (arith, s .place, shown-short (answerTo k l), ap length (s .bytes), length-sets out x (shown (answerTo k l)));
               size = refl;
               onward = omega arith;

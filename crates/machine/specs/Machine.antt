@@ -4,15 +4,17 @@ use mathlib.Core.Path.{_≡_}
 use mathlib.Core.Bool.{true, false}
 use mathlib.Core.List.{List}
 use lib.ListN.{length, take, drop}
-use Rattle.model.specs.Table.{Arrays}
-use Rattle.model.specs.Lent.{Lent, Lents}
+use Rattle.model.specs.Table.{Table, Arrays}
+use Rattle.model.specs.Lent.{Lent, Lents, tableGiven}
 use Rattle.model.specs.Refusal.{roomShort}
 use Rattle.lines.specs.Words.{upToFeed}
-use Rattle.session.specs.Maps.{session, Right}
+use Rattle.session.specs.Maps.{isEmpty, mapOf, session, Right}
 use Rattle.console.specs.Rack.{Rack, rack, held, rackNow, rackGiven, rackLeft, movesIn}
 use Rattle.machine.specs.Standing.{Standing, beginning, Goes, Idle, Turned, received}
 use Rattle.machine.specs.declared.Machine.{Machine}
 use Rattle.machine.specs.declared.After.{After}
+use Rattle.machine.specs.declared.wheres.Spot.{Spot}
+use Rattle.model.specs.declared.table.Header.{Header}
 
 -- the bytes kept of an unfinished line: more than a readable line has
 abbrev pub keptBytes : ℕ
@@ -84,6 +86,25 @@ pub record Pages (m : Machine) (k : Rack) (out : List ℕ) (r : After) (k′ : R
   pub done : r .more ≡ false → r .machine .listing ≡ false
   pub more : r .more ≡ true → 0 < r .put
 
+-- a machine at another place of its bytes
+abbrev pub onTo : Machine → ℕ → Machine
+onTo m from = record { state = m .state; listing = m .listing; row = m .row; from = from; size = m .size }
+
+-- a machine with no list in progress, whose map is t
+pub record Shows (m : Machine) (k : Rack) (t : Table) : Type 0 where
+  pub listing : m .listing ≡ false
+  pub some : isEmpty (held k .state .stage) ≡ false
+  pub map : mapOf (held k) ≡ t
+  pub sane : Sane m k
+
+-- `where` lines answered on the map t, from a place of the bytes on, by whatever machine has that map
+pub record Places (t : Table) (bytes : List ℕ) (from put : ℕ) (out : List ℕ) (r : Spot) (out′ : List ℕ) : Type 0 where
+  pub within : r .from ≤ length bytes
+  pub room : r .put ≤ length out′
+  pub went
+      : (m : Machine) (one two : Arrays) → m .from ≡ from → Shows m (rack (m .state) one two) t
+      → Went m (rack (m .state) one two) bytes put out (onTo m (r .from)) (rack (m .state) one two) (r .put) out′
+
 -- the lines of the bytes answered
 pub record Answers (m : Machine) (k : Rack) (bytes : List ℕ) (put : ℕ) (out : List ℕ) (r : After) (k′ : Rack) (out′ : List ℕ) : Type 0 where
   pub went : Went m k bytes put out (r .machine) k′ (r .put) out′
@@ -109,6 +130,16 @@ abbrev pub PutsPage : Machine → Lents → Lents → Lents → Lents → Lents 
 PutsPage m t e b a t₂ e₂ b₂ a₂ out r =
     Pages m (rackGiven (m .state) t e b a t₂ e₂ b₂ a₂) (out .entry .now) r
     (rackLeft (r .machine .state) t e b a t₂ e₂ b₂ a₂) (out .exit .now)
+
+abbrev pub AnswersPlaces : Header → Lents → Lents → Lents → Lents → Lents → ℕ → ℕ → Lents → Spot → Type 0
+AnswersPlaces h t e b a block from put out r =
+    Places (tableGiven h t e b a) (block .entry .now) from put (out .entry .now) r (out .exit .now)
+
+abbrev pub AnswersWheres
+    : Machine → Lents → Lents → Lents → Lents → Lents → Lents → Lents → Lents → Lents → ℕ → Lents → Spot → Type 0
+AnswersWheres m block t e b a t₂ e₂ b₂ a₂ put out r =
+    Went m (rackGiven (m .state) t e b a t₂ e₂ b₂ a₂) (block .entry .now) put (out .entry .now) (onTo m (r .from))
+    (rackGiven (m .state) t e b a t₂ e₂ b₂ a₂) (r .put) (out .exit .now)
 
 abbrev pub AnswersLines
     : Machine → Lents → Lents → Lents → Lents → Lents → Lents → Lents → Lents → Lents → ℕ → Lents → After → Type 0

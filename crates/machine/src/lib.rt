@@ -1,4 +1,6 @@
 // The program without its input and output: a machine that is given blocks of bytes, and puts what it prints into a buffer.
+mod wheres;
+
 use console::list::list;
 use console::step::step;
 use lines::feed_at;
@@ -9,6 +11,7 @@ use print::LINE;
 use print::MOVE;
 use session::state::Stage;
 use session::state::State;
+use wheres::answer_wheres;
 ghost use mathlib.Core.Path.{_≡_};
 ghost use mathlib.Core.Bool.{false};
 ghost use Prim.Native.Nat.{_+_, _≤_, _<_};
@@ -175,6 +178,25 @@ fn answer(
 {
     let mut at = put;
     while at <= LAST {
+        let spot = answer_wheres(
+            m,
+            block,
+            tops,
+            ends,
+            blocks,
+            adjustments,
+            second_tops,
+            second_ends,
+            second_blocks,
+            second_adjustments,
+            at,
+            out,
+        );
+        at = spot.put;
+        m.from = spot.from;
+        if LAST < at {
+            break;
+        }
         let from = m.from;
         let end = feed_at(block, from);
         if end == block.len() {
@@ -196,7 +218,7 @@ fn answer(
             second_blocks,
             second_adjustments,
             out,
-            at,
+            spot.put,
         );
         at = reply.at;
         let state = reply.state;

@@ -14,7 +14,7 @@ ghost use Rattle.model.specs.declared.answer.Answer.the-variants as says;
 ghost use Rattle.session.specs.Maps.{maps, isEmpty as emptyAt, Mapped, Renews, Reads, Answers, Stepped, Right};
 
 // Whether there is no map.
-fn is_empty(state: State) -> bool
+pub fn is_empty(state: State) -> bool
     ensures { λ r. ⌜ r ≡ emptyAt (state .stage) ⌝ }
 {
     let stage = state.stage;

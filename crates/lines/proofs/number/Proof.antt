@@ -12,13 +12,13 @@ use Rattle.lines.proofs.number.Statement.{statement}
 use Rattle.lines.proofs.number.Tie as tie
 
 abbrev Inv-loop : tie.InvT-loop
-Inv-loop line from value₀ end₀ value end = Digits line from end value
+Inv-loop line from value₀ end₀ value end = Digits 32 line from end value
 
 abbrev μ-loop : tie.MeasureT-loop
 μ-loop line from value₀ end₀ value end = length line - end
 
 loop-holds : tie.Need-loop-holds Inv-loop μ-loop
-loop-holds c = digits-none _ _ (c .pre)
+loop-holds c = digits-none 32 _ _ (c .pre)
 
 shared-slice-read-c : tie.Need-shared-slice-read-c Inv-loop μ-loop
 shared-slice-read-c c = omega arith

@@ -23,63 +23,91 @@ abbrev μ-loop : tie.MeasureT-loop
 loop-holds : tie.Need-loop-holds Inv-loop μ-loop
 loop-holds c = let pre = c .before .pre in (went-none _ _ _ _ _ (pre .1) (pre .0 .2) (pre .0 .1), pre .0 .0)
 
+answer-wheres-requires : tie.Need-answer-wheres-requires Inv-loop μ-loop
+answer-wheres-requires c κs =
+    let inv = c .before .before .before .before .before .before .before .before .before .before .loop .inv in
+    ((inv .1, inv .0 .within, inv .0 .room), inv .0 .sane)
+
 feed-at-requires : tie.Need-feed-at-requires Inv-loop μ-loop
-feed-at-requires c κs = c .before .loop .inv .0 .within
+feed-at-requires c κs = c .before .answer-wheres .ensures .within
 
 returns : tie.Need-returns Inv-loop μ-loop
 returns c =
-    let inv = c .before .before .before .loop .inv in
-    answers-done (inv .0) (line-none _ _ _ _ (inv .1) (inv .0 .within) (c .before .feed-at .ensures) (c .if1 .taken))
+    let fed = c .before in
+    let wheres = fed .before .before in
+    let inv = wheres .before .before .before .before .before .before .before .before .before .before .before .loop .inv in
+    let gone = went-then (inv .0) (wheres .answer-wheres .ensures) in
+    answers-done gone (line-none _ _ _ _ (inv .1) (gone .within) (fed .feed-at .ensures) (c .if2 .taken))
 
 sub-step : tie.Need-sub-step Inv-loop μ-loop
 sub-step c = omega (arith, c .before .feed-at .ensures)
 
 part-step-start : tie.Need-part-step-start Inv-loop μ-loop
-part-step-start c = let inv = c .before .before .before .loop .inv in omega (arith, inv .0 .within)
+part-step-start c = omega (arith, c .before .before .before .answer-wheres .ensures .within)
 
 part-step-end : tie.Need-part-step-end Inv-loop μ-loop
 part-step-end c =
-    let inv = c .before .before .before .loop .inv in
-    omega (arith, inv .0 .within, end-within _ _ _ (inv .0 .within) (c .before .feed-at .ensures))
+    let within = c .before .before .before .answer-wheres .ensures .within in
+    omega (arith, within, end-within _ _ _ within (c .before .feed-at .ensures))
 
 step-requires : tie.Need-step-requires Inv-loop μ-loop
 step-requires c κs =
-    let inv = c .before .before .before .before .before .before .before .before .before .before .before .before .before .loop .inv in
-    (omega arith, inv .0 .sane .right)
-
-loop-again : tie.Need-loop-again Inv-loop μ-loop
-loop-again c =
-    let cut = c .before .before .before .before .before .before .before .before .before .before .before .before .before in
-    let inv = cut .before .before .before .loop .inv in (
-      went-then (inv .0)
-          (line-went _ _ _ _ (inv .1) (inv .0 .within) (cut .before .feed-at .ensures) (cut .before .before .before .loop .at) _ _ _ _ _ _ _
-          (cut .if1 .left) refl (inv .0 .sane) (omega arith) (c .before .before .step .ensures) _ _ (omega arith) (omega arith) (omega arith)),
-      c .if2 .left,
-    )
-
-returns-3 : tie.Need-returns-3 Inv-loop μ-loop
-returns-3 c =
-    let cut = c .before .before .before .before .before .before .before .before .before .before .before .before .before in
-    let inv = cut .before .before .before .loop .inv in
-    answers-more
-    (went-then (inv .0)
-    (line-went _ _ _ _ (inv .1) (inv .0 .within) (cut .before .feed-at .ensures) (cut .before .before .before .loop .at) _ _ _ _ _ _ _
-    (cut .if1 .left) refl (inv .0 .sane) (omega arith) (c .before .before .step .ensures) _ _ (omega arith) (omega arith) (omega arith)))
-    (omega (arith, inv .0 .onward, cut .before .feed-at .ensures))
+    let wheres = c .before .before .before .before .before .before .before .before .before .before .before .before .before in
+    (omega arith, wheres .answer-wheres .ensures .sane .right)
 
 add-m : tie.Need-add-m Inv-loop μ-loop
 add-m c =
     let fed = c .before .before .before .before .before .before .before .before .before .before .before .before .before in
-    omega (arith, end-within _ _ _ (fed .before .before .loop .inv .0 .within) (fed .feed-at .ensures))
+    let start = fed .before .before .before .before .before .before .before .before .before .before .before .before .before .before .before in
+    omega (arith, start .good, end-within _ _ _ (fed .before .before .answer-wheres .ensures .within) (fed .feed-at .ensures))
 
 loop-less : tie.Need-loop-less Inv-loop μ-loop
 loop-less c =
     let cut = c .before .before .before .before .before .before .before .before .before .before .before .before .before in
-    let inv = cut .before .before .before .loop .inv in
-    omega (arith, cut .before .feed-at .ensures, cut .if1 .left, end-within _ _ _ (inv .0 .within) (cut .before .feed-at .ensures))
+    let wheres = cut .before .before .before in
+    let inv = wheres .before .before .before .before .before .before .before .before .before .before .before .loop .inv in
+    let gone = went-then (inv .0) (wheres .answer-wheres .ensures) in
+    omega (
+      arith,
+      wheres .answer-wheres .ensures .onward,
+      cut .before .feed-at .ensures,
+      cut .if2 .left,
+      end-within _ _ _ (gone .within) (cut .before .feed-at .ensures),
+    )
+
+loop-again : tie.Need-loop-again Inv-loop μ-loop
+loop-again c =
+    let cut = c .before .before .before .before .before .before .before .before .before .before .before .before .before in
+    let wheres = cut .before .before .before in
+    let inv = wheres .before .before .before .before .before .before .before .before .before .before .before .loop .inv in
+    let gone = went-then (inv .0) (wheres .answer-wheres .ensures) in (
+      went-then gone
+          (line-went _ _ _ _ (inv .1) (gone .within) (cut .before .feed-at .ensures) _ _ _ _ _ _ _ _
+          (cut .if2 .left) refl (gone .sane) (omega arith) (c .before .before .step .ensures) _ _ (omega arith) (λ e. omega arith) (omega arith)),
+      c .if3 .left,
+    )
 
 returns-2 : tie.Need-returns-2 Inv-loop μ-loop
 returns-2 c = answers-more (c .before .loop .inv .0) (omega (arith, c .before .loop .inv .0 .onward, c .loop-test .left))
+
+returns-3 : tie.Need-returns-3 Inv-loop μ-loop
+returns-3 c =
+    let wheres = c .before in
+    let inv = wheres .before .before .before .before .before .before .before .before .before .before .before .loop .inv in
+    let gone = went-then (inv .0) (wheres .answer-wheres .ensures) in
+    answers-more gone (omega (arith, gone .onward, c .if1 .taken))
+
+returns-4 : tie.Need-returns-4 Inv-loop μ-loop
+returns-4 c =
+    let cut = c .before .before .before .before .before .before .before .before .before .before .before .before .before in
+    let wheres = cut .before .before .before in
+    let inv = wheres .before .before .before .before .before .before .before .before .before .before .before .loop .inv in
+    let gone = went-then (inv .0) (wheres .answer-wheres .ensures) in
+    answers-more
+    (went-then gone
+    (line-went _ _ _ _ (inv .1) (gone .within) (cut .before .feed-at .ensures) _ _ _ _ _ _ _ _
+    (cut .if2 .left) refl (gone .sane) (omega arith) (c .before .before .step .ensures) _ _ (omega arith) (λ e. omega arith) (omega arith)))
+    (omega (arith, gone .onward, cut .before .feed-at .ensures))
 
 pub answer-spec : {M : Type 1} → statement M
 answer-spec =
@@ -88,6 +116,7 @@ answer-spec =
     Inv-loop
     μ-loop
     loop-holds
+    answer-wheres-requires
     feed-at-requires
     returns
     sub-step
@@ -98,4 +127,5 @@ answer-spec =
     loop-less
     loop-again
     returns-2
-    returns-3)
+    returns-3
+    returns-4)
