@@ -1,9 +1,9 @@
 -- Laws of a number's decimal digits. Assumes nothing.
-use Prim.Native.Nat.{ℕ, zero, suc, _+_, _*_, _/_, _%_, _^_, _≤_, _<_}
+use Prim.Native.Nat.{ℕ, zero, suc, _+_, _/_, _%_, _^_, _≤_, _<_}
 use mathlib.Core.Path.{_≡_, sym, _∙_, ap}
 use mathlib.Core.Logic.{⊎-elim}
 use mathlib.Core.List.{List, [], _∷_, _++_, append-assoc}
-use native.Mathlib.Nat.{mod-eq-of-lt, pow-suc, one-le-pow}
+use native.Mathlib.Nat.{mod-eq-of-lt, pow-suc}
 use native.Mathlib.Omega.{arith}
 use lib.ListN.{length, length-append}
 use borrow.Author.Tests.{lt-ltb, le-ltb}
@@ -31,19 +31,6 @@ digits-short (suc k) n =
     (λ l. rw (digits-one k n l) (omega arith))
     (λ l. rw (digits-more k n l) (omega (arith, digits-short k (n / 10), length-append (digits k (n / 10)) ((48 + n % 10) ∷ []))))
     (below-or n 10)
-
--- w + 1 digits from 10 ^ w on, where k allows them
-digits-length : (w k n : ℕ) → w < k → 10 ^ w ≤ n → n < 10 ^ suc w → length (digits k n) ≡ suc w
-digits-length zero zero n l a b = absurd (omega arith)
-digits-length zero (suc k) n l a b = ap length (digits-one k n b)
-digits-length (suc w) zero n l a b = absurd (omega arith)
-digits-length (suc w) (suc k) n l a b =
-    let p : 10 ^ suc w ≡ 10 ^ w * 10 = pow-suc 10 w in
-    let q : 10 ^ suc (suc w) ≡ 10 ^ suc w * 10 = pow-suc 10 (suc w) in
-    let one : 1 ≤ 10 ^ w = one-le-pow w 10 (omega arith) in
-    let rest = digits-length w k (n / 10) (omega arith) (omega arith) (omega arith) in
-    ap length (digits-more k n (omega arith))
-    ∙ omega (arith, length-append (digits k (n / 10)) ((48 + n % 10) ∷ []))
 
 -- below 10 ^ (k + 1), k + 1 digits are all
 digits-enough : (k n : ℕ) → n < 10 ^ suc k → digits (suc (suc k)) n ≡ digits (suc k) n
@@ -85,10 +72,6 @@ decimal-pair n f l =
     ∙ ap (λ (ds : List ℕ). ds ++ (48 + n % 10) ∷ []) (decimal-more (n / 10) (omega arith) (omega arith))
     ∙ append-assoc (decimal (n / 10 / 10)) ((48 + n / 10 % 10) ∷ []) ((48 + n % 10) ∷ [])
     ∙ rw (hundredth, tens, ones)
-
-pub decimal-length : (w n : ℕ) → w < 10 → 10 ^ w ≤ n → n < 10 ^ suc w → suc w ≡ length (decimal n)
-unfolding decimal
-decimal-length w n l a b = sym (digits-length w 10 n l a b)
 
 pub decimal-short : (n : ℕ) → length (decimal n) ≤ 10
 unfolding decimal

@@ -1,4 +1,5 @@
 pub mod Decimal
 pub mod Stores
-pub mod Backward
+pub mod Leading
+pub mod Lanes
 pub mod Lines

@@ -5,7 +5,7 @@ use mathlib.Core.List.{List, [], _∷_, _++_}
 use native.Mathlib.Numerals.{add-one}
 use native.Mathlib.Omega.{arith}
 use lib.ListN.{length, getD, take, set}
-use lib.Seq.{take-suc, sets, set-set, set-comm}
+use lib.Seq.{take-suc, sets, set-comm}
 use Rattle.print.specs.Numbers.{pairOf}
 
 -- the first entries of a list, and the next
@@ -28,12 +28,6 @@ sets-swap xs [] l o i h = refl
 sets-swap xs (y ∷ ys) l o i h =
     ap (λ (m : List ℕ). sets m (suc i) ys) (sets-behind xs l o i y h)
     ∙ sets-swap xs ys (set l i y) o (suc i) (omega arith)
-
--- an entry stored again behind the next one
-pub set-over
-    : (l : List ℕ) (o a b v : ℕ) → set (set (set l o a) (suc o) b) o v ≡ set (set l (suc o) b) o v
-set-over l o a b v =
-    ap (λ (m : List ℕ). set m o v) (set-comm l o (suc o) a b (λ e. omega arith)) ∙ set-set (set l (suc o) b) o a v
 
 -- the two digits of a number, stored one after the other
 pub pair-stored

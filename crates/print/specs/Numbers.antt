@@ -1,5 +1,5 @@
 -- The parts of a printed line. Assumes nothing.
-use Prim.Native.Nat.{ℕ, _+_, _/_, _%_}
+use Prim.Native.Nat.{ℕ, zero, suc, _+_, _/_, _%_}
 use mathlib.Core.List.{List, [], _∷_, _++_, map}
 use Rattle.model.specs.Basics.{joined}
 use Rattle.model.specs.Console.{decimal}
@@ -14,6 +14,15 @@ moveRoom = 60
 -- the two digits of a number below 100, the tens first
 abbrev pub pairOf : ℕ → List ℕ
 pairOf p = (48 + p / 10) ∷ (48 + p % 10) ∷ []
+
+-- the four digits of a number below 10,000
+abbrev pub fourOf : ℕ → List ℕ
+fourOf x = pairOf (x / 100) ++ pairOf (x % 100)
+
+-- the k lowest bytes of a number, the lowest first
+unfoldable pub bytesOf : ℕ → ℕ → List ℕ
+bytesOf zero x = []
+bytesOf (suc k) x = x % 256 ∷ bytesOf k (x / 256)
 
 -- numbers in decimal, a blank before each
 unfoldable pub numbers : List ℕ → List ℕ

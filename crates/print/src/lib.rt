@@ -3,9 +3,10 @@
 mod number;
 
 use number::put_number;
+use number::put_small;
 ghost use mathlib.Core.List.{[], _∷_};
 ghost use mathlib.Core.Path.{_≡_};
-ghost use Prim.Native.Nat.{_+_, _*_, _≤_};
+ghost use Prim.Native.Nat.{_+_, _≤_};
 ghost use lib.ListN.{length};
 ghost use lib.Seq.{sets};
 ghost use Rattle.model.specs.Console.{line};
@@ -30,29 +31,36 @@ fn put_word(word: &[u8], out: &mut [u8], at: usize) -> usize
     at + i
 }
 
-// Numbers, a blank before each.
-fn put_numbers(ns: &[u32], out: &mut [u8], at: usize) -> usize
-    requires { ⌜ at + 11 * length (now ns) ≤ length (now out) ⌝ }
-    ensures place { λ r. ⌜ r ≡ at + length (numbers (now (ns .entry))) ⌝ }
-    ensures bytes { λ _. ⌜ now (out .exit) ≡ sets (now (out .entry)) at (numbers (now (ns .entry))) ⌝ }
+// Two numbers, of which the first is mostly below 100.
+fn put_both(a: u32, b: u32, out: &mut [u8], at: usize) -> usize
+    requires { ⌜ at + 22 ≤ length (now out) ⌝ }
+    ensures place { λ r. ⌜ r ≡ at + length (numbers (a ∷ b ∷ [])) ⌝ }
+    ensures bytes { λ _. ⌜ now (out .exit) ≡ sets (now (out .entry)) at (numbers (a ∷ b ∷ [])) ⌝ }
 {
-    let mut end = at;
-    let mut i: usize = 0;
-    while i < ns.len() {
-        end = put_number(ns[i], out, end);
-        i += 1;
-    }
-    end
+    let behind = put_small(a, out, at);
+    put_number(b, out, behind)
 }
 
-// A line.
-fn put_line(word: &[u8], ns: &[u32], out: &mut [u8], at: usize) -> usize
-    requires { ⌜ at + length (now word) + 11 * length (now ns) + 1 ≤ length (now out) ⌝ }
-    ensures place { λ r. ⌜ r ≡ at + length (lineOf (now (word .entry)) (now (ns .entry))) ⌝ }
-    ensures bytes { λ _. ⌜ now (out .exit) ≡ sets (now (out .entry)) at (lineOf (now (word .entry)) (now (ns .entry))) ⌝ }
+// A line of one number.
+fn put_one_line(word: &[u8], n: u32, out: &mut [u8], at: usize) -> usize
+    requires { ⌜ at + length (now word) + 12 ≤ length (now out) ⌝ }
+    ensures place { λ r. ⌜ r ≡ at + length (lineOf (now (word .entry)) (n ∷ [])) ⌝ }
+    ensures bytes { λ _. ⌜ now (out .exit) ≡ sets (now (out .entry)) at (lineOf (now (word .entry)) (n ∷ [])) ⌝ }
 {
     let behind = put_word(word, out, at);
-    let end = put_numbers(ns, out, behind);
+    let end = put_number(n, out, behind);
+    out[end] = b'\n';
+    end + 1
+}
+
+// A line of two numbers, of which the first is mostly below 100.
+fn put_two_line(word: &[u8], a: u32, b: u32, out: &mut [u8], at: usize) -> usize
+    requires { ⌜ at + length (now word) + 23 ≤ length (now out) ⌝ }
+    ensures place { λ r. ⌜ r ≡ at + length (lineOf (now (word .entry)) (a ∷ b ∷ [])) ⌝ }
+    ensures bytes { λ _. ⌜ now (out .exit) ≡ sets (now (out .entry)) at (lineOf (now (word .entry)) (a ∷ b ∷ [])) ⌝ }
+{
+    let behind = put_word(word, out, at);
+    let end = put_both(a, b, out, behind);
     out[end] = b'\n';
     end + 1
 }
@@ -63,7 +71,7 @@ pub fn put_ok(a: u32, b: u32, out: &mut [u8], at: usize) -> usize
     ensures place { λ r. ⌜ r ≡ at + length (line "ok" (a ∷ b ∷ [])) ⌝ }
     ensures bytes { λ _. ⌜ now (out .exit) ≡ sets (now (out .entry)) at (line "ok" (a ∷ b ∷ [])) ⌝ }
 {
-    put_line(b"ok", &[a, b], out, at)
+    put_two_line(b"ok", a, b, out, at)
 }
 
 // A bucket's place: its bin, and its position there.
@@ -72,7 +80,7 @@ pub fn put_place(bin: u32, position: u32, out: &mut [u8], at: usize) -> usize
     ensures place { λ r. ⌜ r ≡ at + length (line "place" (bin ∷ position ∷ [])) ⌝ }
     ensures bytes { λ _. ⌜ now (out .exit) ≡ sets (now (out .entry)) at (line "place" (bin ∷ position ∷ [])) ⌝ }
 {
-    put_line(b"place", &[bin, position], out, at)
+    put_two_line(b"place", bin, position, out, at)
 }
 
 // The bucket at a place.
@@ -81,7 +89,7 @@ pub fn put_bucket(bucket: u32, out: &mut [u8], at: usize) -> usize
     ensures place { λ r. ⌜ r ≡ at + length (line "bucket" (bucket ∷ [])) ⌝ }
     ensures bytes { λ _. ⌜ now (out .exit) ≡ sets (now (out .entry)) at (line "bucket" (bucket ∷ [])) ⌝ }
 {
-    put_line(b"bucket", &[bucket], out, at)
+    put_one_line(b"bucket", bucket, out, at)
 }
 
 // A refused command: the refusal's number.
@@ -90,7 +98,7 @@ pub fn put_refused(refusal: u32, out: &mut [u8], at: usize) -> usize
     ensures place { λ r. ⌜ r ≡ at + length (line "refused" (refusal ∷ [])) ⌝ }
     ensures bytes { λ _. ⌜ now (out .exit) ≡ sets (now (out .entry)) at (line "refused" (refusal ∷ [])) ⌝ }
 {
-    put_line(b"refused", &[refusal], out, at)
+    put_one_line(b"refused", refusal, out, at)
 }
 
 // A row of the move list.
@@ -110,10 +118,10 @@ pub fn put_move(
         now (out .exit) ≡ sets (now (out .entry)) at (line "move" (bucket ∷ «old_bin» ∷ «old_position» ∷ «new_bin» ∷ «new_position» ∷ []))
         ⌝ }
 {
-    put_line(
-        b"move",
-        &[bucket, old_bin, old_position, new_bin, new_position],
-        out,
-        at,
-    )
+    let first = put_word(b"move", out, at);
+    let second = put_number(bucket, out, first);
+    let third = put_both(old_bin, old_position, out, second);
+    let end = put_both(new_bin, new_position, out, third);
+    out[end] = b'\n';
+    end + 1
 }

@@ -1,44 +1,25 @@
-// A number in decimal.
-ghost use mathlib.Core.List.{_∷_};
+// A number in decimal, with a blank before it. How many digits it has picks the function; each stores them by pairs or eight at a
+// time, and the zero before a single first digit where the blank goes.
+ghost use mathlib.Core.List.{_∷_, _++_};
 ghost use mathlib.Core.Path.{_≡_};
+ghost use mathlib.Core.Logic.{_⊎_};
 ghost use Prim.Native.Nat.{_+_, _≤_, _<_};
 ghost use lib.ListN.{length};
 ghost use lib.Seq.{sets};
 ghost use Rattle.model.specs.Console.{decimal};
-ghost use Rattle.print.specs.Numbers.{pairOf};
+ghost use Rattle.print.specs.Numbers.{pairOf, fourOf, bytesOf};
 
-// How many digits n has.
-fn width(n: u32) -> usize
-    ensures { λ r. ⌜ r ≡ length (decimal n) ⌝ }
+// What stands before a number.
+const BLANK: u8 = b' ';
+
+// 1 below `least`, and 0 from it on.
+fn below(n: u32, least: u32) -> usize
+    ensures { λ r. ⌜ ((least ≤ n) × (r ≡ 0)) ⊎ ((n < least) × (r ≡ 1)) ⌝ }
 {
-    if n < 10 {
+    if n < least {
         return 1;
     }
-    if n < 100 {
-        return 2;
-    }
-    if n < 1_000 {
-        return 3;
-    }
-    if n < 10_000 {
-        return 4;
-    }
-    if n < 100_000 {
-        return 5;
-    }
-    if n < 1_000_000 {
-        return 6;
-    }
-    if n < 10_000_000 {
-        return 7;
-    }
-    if n < 100_000_000 {
-        return 8;
-    }
-    if n < 1_000_000_000 {
-        return 9;
-    }
-    10
+    0
 }
 
 // Writes the two digits of a number below 100. For such a number `* 103 / 1_024` is `/ 10` by a shorter multiplication.
@@ -53,21 +34,138 @@ fn put_pair(pair: u32, out: &mut [u8], at: usize)
     out[at + 1] = (48 + ones) as u8;
 }
 
-// Writes n, the last two digits first, and the blank before it; the zero before a single first digit stands where the blank goes.
+// Writes the bytes of x, the lowest first: one store of 8 bytes.
+fn put_bytes(x: u64, out: &mut [u8], at: usize)
+    requires { ⌜ at + 8 ≤ length (now out) ⌝ }
+    ensures { λ _. ⌜ now (out .exit) ≡ sets (now (out .entry)) at (bytesOf 8 x) ⌝ }
+{
+    out[at] = (x % 256) as u8;
+    out[at + 1] = (x / 256 % 256) as u8;
+    out[at + 2] = (x / 65_536 % 256) as u8;
+    out[at + 3] = (x / 16_777_216 % 256) as u8;
+    out[at + 4] = (x / 4_294_967_296 % 256) as u8;
+    out[at + 5] = (x / 1_099_511_627_776 % 256) as u8;
+    out[at + 6] = (x / 281_474_976_710_656 % 256) as u8;
+    out[at + 7] = (x / 72_057_594_037_927_936 % 256) as u8;
+}
+
+// Writes two numbers below 10,000 in four digits each, all eight at once: the two numbers stand in the halves of a word, their
+// hundreds and what is over in its quarters, and the digits in its bytes. `* 5_243 / 524_288` is `/ 100` in each half, and
+// `* 103 / 1_024` is `/ 10` in each quarter.
+fn put_fours(high: u32, low: u32, out: &mut [u8], at: usize)
+    requires below { ⌜ (high < 10_000) × (low < 10_000) ⌝ }
+    requires room { ⌜ at + 8 ≤ length (now out) ⌝ }
+    ensures { λ _. ⌜ now (out .exit) ≡ sets (now (out .entry)) at (fourOf high ++ fourOf low) ⌝ }
+{
+    let fours = 4_294_967_296 * (low as u64) + high as u64;
+    let hundreds = (fours * 5_243 / 524_288) & 0x7f_0000_007f;
+    let pairs = 65_536 * fours - 6_553_599 * hundreds;
+    let tens = (pairs * 103 / 1_024) & 0xf_000f_000f_000f;
+    let digits = 256 * pairs - 2_559 * tens;
+    put_bytes(digits + 0x3030_3030_3030_3030, out, at);
+}
+
+// One or two digits.
+fn put_two(n: u32, out: &mut [u8], at: usize) -> usize
+    requires few { ⌜ n < 100 ⌝ }
+    requires room { ⌜ at + 11 ≤ length (now out) ⌝ }
+    ensures place { λ r. ⌜ r ≡ at + length (32 ∷ decimal n) ⌝ }
+    ensures bytes { λ _. ⌜ now (out .exit) ≡ sets (now (out .entry)) at (32 ∷ decimal n) ⌝ }
+{
+    let end = at + (3 - below(n, 10));
+    put_pair(n, out, end - 2);
+    out[at] = BLANK;
+    end
+}
+
+// Three or four digits.
+fn put_four(n: u32, out: &mut [u8], at: usize) -> usize
+    requires many { ⌜ 100 ≤ n ⌝ }
+    requires few { ⌜ n < 10_000 ⌝ }
+    requires room { ⌜ at + 11 ≤ length (now out) ⌝ }
+    ensures place { λ r. ⌜ r ≡ at + length (32 ∷ decimal n) ⌝ }
+    ensures bytes { λ _. ⌜ now (out .exit) ≡ sets (now (out .entry)) at (32 ∷ decimal n) ⌝ }
+{
+    let end = at + (5 - below(n, 1_000));
+    put_pair(n / 100, out, end - 4);
+    put_pair(n % 100, out, end - 2);
+    out[at] = BLANK;
+    end
+}
+
+// Five or six digits.
+fn put_six(n: u32, out: &mut [u8], at: usize) -> usize
+    requires many { ⌜ 10_000 ≤ n ⌝ }
+    requires few { ⌜ n < 1_000_000 ⌝ }
+    requires room { ⌜ at + 11 ≤ length (now out) ⌝ }
+    ensures place { λ r. ⌜ r ≡ at + length (32 ∷ decimal n) ⌝ }
+    ensures bytes { λ _. ⌜ now (out .exit) ≡ sets (now (out .entry)) at (32 ∷ decimal n) ⌝ }
+{
+    let end = at + (7 - below(n, 100_000));
+    put_pair(n / 10_000, out, end - 6);
+    put_pair(n / 100 % 100, out, end - 4);
+    put_pair(n % 100, out, end - 2);
+    out[at] = BLANK;
+    end
+}
+
+// Seven or eight digits.
+fn put_eight(n: u32, out: &mut [u8], at: usize) -> usize
+    requires many { ⌜ 1_000_000 ≤ n ⌝ }
+    requires few { ⌜ n < 100_000_000 ⌝ }
+    requires room { ⌜ at + 11 ≤ length (now out) ⌝ }
+    ensures place { λ r. ⌜ r ≡ at + length (32 ∷ decimal n) ⌝ }
+    ensures bytes { λ _. ⌜ now (out .exit) ≡ sets (now (out .entry)) at (32 ∷ decimal n) ⌝ }
+{
+    let end = at + (9 - below(n, 10_000_000));
+    put_fours(n / 10_000, n % 10_000, out, end - 8);
+    out[at] = BLANK;
+    end
+}
+
+// Nine or ten digits.
+fn put_ten(n: u32, out: &mut [u8], at: usize) -> usize
+    requires many { ⌜ 100_000_000 ≤ n ⌝ }
+    requires room { ⌜ at + 11 ≤ length (now out) ⌝ }
+    ensures place { λ r. ⌜ r ≡ at + length (32 ∷ decimal n) ⌝ }
+    ensures bytes { λ _. ⌜ now (out .exit) ≡ sets (now (out .entry)) at (32 ∷ decimal n) ⌝ }
+{
+    let end = at + (11 - below(n, 1_000_000_000));
+    put_pair(n / 100_000_000, out, end - 10);
+    put_fours(n / 10_000 % 10_000, n % 10_000, out, end - 8);
+    out[at] = BLANK;
+    end
+}
+
+// Any number. The most digits are asked for first: they take the longest.
 pub fn put_number(n: u32, out: &mut [u8], at: usize) -> usize
     requires { ⌜ at + 11 ≤ length (now out) ⌝ }
     ensures place { λ r. ⌜ r ≡ at + length (32 ∷ decimal n) ⌝ }
     ensures bytes { λ _. ⌜ now (out .exit) ≡ sets (now (out .entry)) at (32 ∷ decimal n) ⌝ }
 {
-    let end = at + 1 + width(n);
-    let mut left = n;
-    let mut i = end;
-    while 100 <= left {
-        i -= 2;
-        put_pair(left % 100, out, i);
-        left = left / 100;
+    if 100_000_000 <= n {
+        return put_ten(n, out, at);
     }
-    put_pair(left, out, i - 2);
-    out[at] = b' ';
-    end
+    if 1_000_000 <= n {
+        return put_eight(n, out, at);
+    }
+    if 10_000 <= n {
+        return put_six(n, out, at);
+    }
+    if 100 <= n {
+        return put_four(n, out, at);
+    }
+    put_two(n, out, at)
+}
+
+// Any number, which is mostly below 100: the test for that stands in the caller's code.
+pub fn put_small(n: u32, out: &mut [u8], at: usize) -> usize
+    requires { ⌜ at + 11 ≤ length (now out) ⌝ }
+    ensures place { λ r. ⌜ r ≡ at + length (32 ∷ decimal n) ⌝ }
+    ensures bytes { λ _. ⌜ now (out .exit) ≡ sets (now (out .entry)) at (32 ∷ decimal n) ⌝ }
+{
+    if n < 100 {
+        return put_two(n, out, at);
+    }
+    put_number(n, out, at)
 }

@@ -1,32 +1,23 @@
--- `print::put_ok` meets its contract, from what `put_line` says of the word's bytes. Assumes nothing.
+-- `print::put_ok` meets its contract, from what `put_two_line` says of the word's bytes. Assumes nothing.
 use borrow.Author.Needs.{needs}
 use Rattle.model.specs.Console.{text, line}
 use Rattle.print.specs.Numbers.{numbers, lineOf}
 use Rattle.print.proofs.put_ok.Statement.{statement}
 use Rattle.print.proofs.put_ok.Tie as tie
 
-slice-aggregate-put-line : tie.Need-slice-aggregate-put-line
-slice-aggregate-put-line c = search needs
+slice-aggregate-put-two-line : tie.Need-slice-aggregate-put-two-line
+slice-aggregate-put-two-line c = search needs
 
-slice-aggregate-put-line-2 : tie.Need-slice-aggregate-put-line-2
-slice-aggregate-put-line-2 c = search needs
-
-put-line-requires : tie.Need-put-line-requires
-put-line-requires c κs = search needs
+put-two-line-requires : tie.Need-put-two-line-requires
+put-two-line-requires c κs = search needs
 
 same-length : tie.Need-same-length
 same-length c = search needs
 
 returns : tie.Need-returns
 unfolding text line numbers lineOf
-returns c = c .before .before .put-line .ensures
+returns c = c .before .before .put-two-line .ensures
 
 pub put-ok-spec : {M : Type 1} → statement M
 put-ok-spec =
-    tie.close
-    (tie.spec
-    slice-aggregate-put-line
-    slice-aggregate-put-line-2
-    put-line-requires
-    same-length
-    returns)
+    tie.close (tie.spec slice-aggregate-put-two-line put-two-line-requires same-length returns)
