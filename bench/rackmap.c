@@ -46,44 +46,57 @@ static inline char *reply_room(void)
 	return output_next;
 }
 
-/* The number of decimal digits. Of the values with the same highest bit, those from some
- * power of 10 on have one digit more: the sum below carries then. */
-static inline unsigned digit_count(uint32_t value)
-{
-#define FROM(digits, power) (((digits) + UINT64_C(1)) << 32) - (power)
-#define ALL(digits) (UINT64_C(digits) << 32)
-	static const uint64_t addend[32] = {
-		ALL(1), ALL(1), ALL(1), FROM(1, 10), ALL(2), ALL(2), FROM(2, 100), ALL(3), ALL(3),
-		FROM(3, 1000), ALL(4), ALL(4), ALL(4), FROM(4, 10000), ALL(5), ALL(5),
-		FROM(5, 100000), ALL(6), ALL(6), FROM(6, 1000000), ALL(7), ALL(7), ALL(7),
-		FROM(7, 10000000), ALL(8), ALL(8), FROM(8, 100000000), ALL(9), ALL(9),
-		FROM(9, 1000000000), ALL(10), ALL(10),
-	};
-#undef FROM
-#undef ALL
-
-	return (unsigned)((value + addend[31 - __builtin_clz(value | 1)]) >> 32);
-}
-
-/* Writes a number, two digits at a time. */
-static inline char *put_number(char *to, uint32_t value)
+/* Writes the two digits of a number below 100. */
+static inline void put_pair(char *to, uint32_t pair)
 {
 	static const char pairs[] =
 		"00010203040506070809101112131415161718192021222324252627282930313233"
 		"34353637383940414243444546474849505152535455565758596061626364656667"
 		"6869707172737475767778798081828384858687888990919293949596979899";
-	char *end = to + digit_count(value);
-	char *p = end;
 
-	while (value >= 100) {
-		p -= 2;
-		memcpy(p, pairs + 2 * (value % 100), 2);
-		value /= 100;
+	memcpy(to, pairs + 2 * pair, 2);
+}
+
+/* Writes two numbers below 10,000 in four digits each, all at once: the numbers stand in the
+ * halves of a word, hundreds and what is over in its quarters, the digits in its bytes. */
+static inline void put_fours(char *to, uint32_t high, uint32_t low)
+{
+	uint64_t fours = high + ((uint64_t)low << 32);
+	uint64_t hundreds = (fours * 5243 >> 19) & UINT64_C(0x7f0000007f);
+	uint64_t pairs = (fours << 16) - 6553599 * hundreds;
+	uint64_t tens = (pairs * 103 >> 10) & UINT64_C(0xf000f000f000f);
+	uint64_t digits = (pairs << 8) - 2559 * tens + UINT64_C(0x3030303030303030);
+
+	memcpy(to, &digits, sizeof digits);
+}
+
+/* Writes a blank and a number, by pairs and eight digits at a time. The zero before a single
+ * first digit is stored where the blank goes. */
+static inline char *put_number(char *to, uint32_t value)
+{
+	char *end;
+
+	if (value >= 100000000) {
+		end = to + 11 - (value < 1000000000);
+		put_pair(end - 10, value / 100000000);
+		put_fours(end - 8, value / 10000 % 10000, value % 10000);
+	} else if (value >= 1000000) {
+		end = to + 9 - (value < 10000000);
+		put_fours(end - 8, value / 10000, value % 10000);
+	} else if (value >= 10000) {
+		end = to + 7 - (value < 100000);
+		put_pair(end - 6, value / 10000);
+		put_pair(end - 4, value / 100 % 100);
+		put_pair(end - 2, value % 100);
+	} else if (value >= 100) {
+		end = to + 5 - (value < 1000);
+		put_pair(end - 4, value / 100);
+		put_pair(end - 2, value % 100);
+	} else {
+		end = to + 3 - (value < 10);
+		put_pair(end - 2, value);
 	}
-	if (value >= 10)
-		memcpy(p - 2, pairs + 2 * value, 2);
-	else
-		p[-1] = (char)('0' + value);
+	*to = ' ';
 	return end;
 }
 
@@ -95,7 +108,7 @@ static inline char *put_text(char *to, const char *text)
 	return to + length;
 }
 
-/* One reply line: a word with its blank, and one number or two. */
+/* One reply line: a word, and one number or two. */
 static inline void reply_one(const char *word, uint32_t a)
 {
 	char *p = put_text(reply_room(), word);
@@ -110,7 +123,6 @@ static inline void reply_two(const char *word, uint32_t a, uint32_t b)
 	char *p = put_text(reply_room(), word);
 
 	p = put_number(p, a);
-	*p++ = ' ';
 	p = put_number(p, b);
 	*p++ = '\n';
 	output_next = p;
@@ -118,7 +130,7 @@ static inline void reply_two(const char *word, uint32_t a, uint32_t b)
 
 static void refuse(uint32_t number)
 {
-	reply_one("refused ", number);
+	reply_one("refused", number);
 }
 
 /* ------------------------------------------------------------------ tables */
@@ -164,7 +176,7 @@ static void fresh(uint32_t buckets, uint32_t bins)
 	map->share = share_of(buckets, bins);
 	has_map = true;
 	has_before = false;
-	reply_two("ok ", 0, 1);
+	reply_two("ok", 0, 1);
 }
 
 /* A refused growth leaves both tables as they are. */
@@ -182,7 +194,7 @@ static void grow(uint32_t buckets, uint32_t bins)
 	map->share = share_of(buckets, bins);
 	before = old;
 	has_before = true;
-	reply_two("ok ", reply.moved, reply.header.interval_count);
+	reply_two("ok", reply.moved, reply.header.interval_count);
 }
 
 static void where(uint32_t bucket)
@@ -193,7 +205,7 @@ static void where(uint32_t bucket)
 	if (reply.refusal != 0)
 		refuse(reply.refusal);
 	else
-		reply_two("place ", reply.bin, reply.position);
+		reply_two("place", reply.bin, reply.position);
 }
 
 static void find(uint32_t bin, uint32_t position)
@@ -204,7 +216,7 @@ static void find(uint32_t bin, uint32_t position)
 	if (reply.refusal != 0)
 		refuse(reply.refusal);
 	else
-		reply_one("bucket ", reply.bucket);
+		reply_one("bucket", reply.bucket);
 }
 
 /* The rows of the latest growth. Moved buckets take the ranks of the new block in
@@ -237,16 +249,12 @@ static void moves(void)
 		uint32_t position = rank / (top - first);
 
 		for (uint32_t bucket = cut; bucket < end; bucket++) {
-			char *p = put_text(reply_room(), "move ");
+			char *p = put_text(reply_room(), "move");
 
 			p = put_number(p, bucket);
-			*p++ = ' ';
 			p = put_number(p, bin);
-			*p++ = ' ';
 			p = put_number(p, position);
-			*p++ = ' ';
 			p = put_number(p, new_bin);
-			*p++ = ' ';
 			p = put_number(p, new_position);
 			*p++ = '\n';
 			output_next = p;
