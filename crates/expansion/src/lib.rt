@@ -7,7 +7,6 @@ ghost use Rattle.model.specs.Refusal.{roomShort};
 ghost use Rattle.expansion_count.specs.Given.{Grows};
 ghost use Rattle.expansion.specs.Replies.{GrowReply, MovesReply};
 use model::limits::BLOCKS;
-use model::limits::MAX_INTERVALS;
 use model::reply::RelocationsReply;
 use model::reply::TableReply;
 use model::table::Header;
@@ -40,7 +39,7 @@ fn accepted(
         (given «new_tops» «new_ends» «new_blocks» «new_adjustments») (left «new_tops» «new_ends» «new_blocks» «new_adjustments») r
         ⌝ }
 {
-    let growth = expansion_count::measure(
+    let full = expansion_count::intervals_full(
         header,
         ends,
         blocks,
@@ -51,10 +50,10 @@ fn accepted(
         falls,
         block_count,
     );
-    if MAX_INTERVALS < growth.intervals {
+    if full {
         return refused_table(8);
     }
-    expansion_table::write_expanded(
+    let growth = expansion_table::write_expanded(
         header,
         tops,
         ends,

@@ -1,6 +1,6 @@
 // The intervals of a growth by which some old block is due less. Every entry is written once: the last moved part gets its
 // final end when it is written.
-use expansion_count::left_behind;
+use expansion_count::Growth;
 use expansion_plan::plan_at;
 use model::limits::BLOCKS;
 use model::plan::Action;
@@ -13,7 +13,7 @@ ghost use lib.ListN.{length};
 ghost use Rattle.model.specs.Table.{interval, sizes};
 ghost use Rattle.model.specs.Expansion.{drained};
 ghost use Rattle.expansion_count.specs.Given.{Some, Drains, tableWith};
-ghost use Rattle.expansion_count.specs.Made.{made};
+ghost use Rattle.expansion_count.specs.Made.{made, CountedDrained};
 ghost use Rattle.expansion_drain.specs.Stored.{Room, Stored, staying, DrainsInto};
 
 // Writes one interval at place o.
@@ -175,7 +175,8 @@ fn write_parts(
     }
 }
 
-// Some old block is due less: one pass over the old intervals.
+// Some old block is due less: one pass over the old intervals, with the new buckets behind the last one. The place that it comes to
+// is the number of intervals.
 pub fn write_drained(
     h: Header,
     ends: &[u32],
@@ -186,24 +187,25 @@ pub fn write_drained(
     new_ends: &mut [u32],
     new_blocks: &mut [u32],
     new_adjustments: &mut [u32],
-)
+) -> Growth
     requires { ⌜
         Some
         (DrainsInto (now «new_ends») (now «new_blocks») (now «new_adjustments») h (now ends) (now blocks) (now adjustments) buckets (now dues))
         ⌝ }
-    ensures { λ _. ⌜ ((tops : List ℕ) (bins : ℕ)
+    ensures { λ r. ⌜ ((tops : List ℕ) (bins : ℕ)
         → Drains h (now (ends .entry)) (now (blocks .entry)) (now (adjustments .entry)) buckets (now (dues .entry)) tops bins
-        → Stored 0 (drained (tableWith h tops ends blocks adjustments) (sizes buckets bins))
+        → CountedDrained (tableWith h tops ends blocks adjustments) (sizes buckets bins) r
+        × Stored 0 (drained (tableWith h tops ends blocks adjustments) (sizes buckets bins))
         (now («new_ends» .entry)) (now («new_blocks» .entry)) (now («new_adjustments» .entry))
         (now («new_ends» .exit)) (now («new_blocks» .exit)) (now («new_adjustments» .exit))) ⌝ }
 {
+    let last = h.interval_count as usize - 1;
     let mut start: u32 = 0;
     let mut moved: u32 = 0;
     let mut o: usize = 0;
     let mut i: usize = 0;
-    while i < h.interval_count as usize {
+    while i < last {
         let plan = plan_at(ends, blocks, adjustments, dues, i, start, moved);
-        let left = left_behind(h, buckets, i);
         let end = ends[i];
         o = write_parts(
             plan,
@@ -211,7 +213,7 @@ pub fn write_drained(
             blocks[i],
             adjustments[i],
             h.block_count,
-            left,
+            0,
             o,
             new_ends,
             new_blocks,
@@ -220,5 +222,22 @@ pub fn write_drained(
         start = end;
         moved = plan.moved;
         i += 1;
+    }
+    let plan = plan_at(ends, blocks, adjustments, dues, i, start, moved);
+    let place = write_parts(
+        plan,
+        ends[i],
+        blocks[i],
+        adjustments[i],
+        h.block_count,
+        buckets - h.buckets,
+        o,
+        new_ends,
+        new_blocks,
+        new_adjustments,
+    );
+    Growth {
+        intervals: place as u32,
+        moved: plan.moved,
     }
 }
