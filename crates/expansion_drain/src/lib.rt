@@ -6,6 +6,7 @@ use model::limits::BLOCKS;
 use model::plan::Action;
 use model::plan::Plan;
 use model::table::Header;
+use table::before;
 ghost use mathlib.Core.List.{List, [], _∷_};
 ghost use Prim.Native.Nat.{ℕ, _+_, _^_, _≤_, _<_};
 ghost use mathlib.Core.Path.{_≡_};
@@ -200,16 +201,15 @@ pub fn write_drained(
         (now («new_ends» .exit)) (now («new_blocks» .exit)) (now («new_adjustments» .exit))) ⌝ }
 {
     let last = h.interval_count as usize - 1;
-    let mut start: u32 = 0;
     let mut moved: u32 = 0;
     let mut o: usize = 0;
     let mut i: usize = 0;
     while i < last {
+        let start = before(ends, i);
         let plan = plan_at(ends, blocks, adjustments, dues, i, start, moved);
-        let end = ends[i];
         o = write_parts(
             plan,
-            end,
+            ends[i],
             blocks[i],
             adjustments[i],
             h.block_count,
@@ -219,10 +219,10 @@ pub fn write_drained(
             new_blocks,
             new_adjustments,
         );
-        start = end;
         moved = plan.moved;
         i += 1;
     }
+    let start = before(ends, i);
     let plan = plan_at(ends, blocks, adjustments, dues, i, start, moved);
     let place = write_parts(
         plan,

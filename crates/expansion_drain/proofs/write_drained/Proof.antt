@@ -5,13 +5,16 @@ use mathlib.Core.Path.{_≡_, sym}
 use mathlib.Core.List.{List, []}
 use native.Mathlib.Omega.{arith}
 use lib.ListN.{length, getD}
+use Rattle.model.specs.Basics.{before}
 use Rattle.model.specs.Table.{Shape, Interval, Table, Arrays, arrays, table, sizes}
 use Rattle.model.specs.Expansion.{plan, drained, movedAfter}
 use Rattle.model.specs.Lent.{lent}
 use Rattle.model.specs.declared.plan.Plan.{Plan}
 use Rattle.model.proofs.Tables.{lentInterval}
+use Rattle.model.proofs.Rules.{before-next}
 use Rattle.model.proofs.Growths.{accepted}
 use Rattle.model.proofs.Steps.{Walk, walk-start, walk-next, walk-end}
+use Rattle.expansion_plan.specs.Shares.{IntervalAt}
 use Rattle.expansion_plan.proofs.Turns.{interval-at, planned}
 use Rattle.expansion_count.specs.Given.{Drains}
 use Rattle.expansion_count.specs.Made.{made, leftBehind}
@@ -32,17 +35,17 @@ use Rattle.expansion_drain.proofs.write_drained.Statement.{statement}
 use Rattle.expansion_drain.proofs.write_drained.Tie as tie
 
 abbrev Inv-loop : tie.InvT-loop
-Inv-loop h ends blocks adjustments buckets dues es bs cs last start₀ moved₀ o₀ i₀ es′ bs′ cs′ start moved o i =
+Inv-loop h ends blocks adjustments buckets dues es bs cs last moved₀ o₀ i₀ es′ bs′ cs′ moved o i =
     (i < h .«interval_count»)
     × ((tops : List ℕ) (bins : ℕ) → Drains h ends blocks adjustments buckets dues tops bins
-    → Walk h (arrays tops ends blocks adjustments) (sizes buckets bins) i start moved
+    → Walk h (arrays tops ends blocks adjustments) (sizes buckets bins) i (before ends i) moved
     × Writing 0 o
     (drained (lent h tops ends blocks adjustments) (sizes buckets bins))
-    (toMake h (arrays tops ends blocks adjustments) (sizes buckets bins) i start moved)
+    (toMake h (arrays tops ends blocks adjustments) (sizes buckets bins) i (before ends i) moved)
     es bs cs es′ bs′ cs′)
 
 abbrev μ-loop : tie.MeasureT-loop
-μ-loop h ends blocks adjustments buckets dues es bs cs last start₀ moved₀ o₀ i₀ es′ bs′ cs′ start moved o i = h .«interval_count» - i
+μ-loop h ends blocks adjustments buckets dues es bs cs last moved₀ o₀ i₀ es′ bs′ cs′ moved o i = h .«interval_count» - i
 
 -- the arrays lent with some tops, and a growth of their table
 abbrev a : tie.Start Inv-loop μ-loop → List ℕ → Arrays
@@ -59,6 +62,7 @@ sub-last : tie.Need-sub-last Inv-loop μ-loop
 sub-last c = omega (arith, c .before .before .before .before .before .before .before .pre .holds .drains .sound .someIntervals)
 
 loop-holds : tie.Need-loop-holds Inv-loop μ-loop
+unfolding before
 loop-holds c = (
   omega (arith, c .before .before .before .before .before .before .before .pre .holds .drains .sound .someIntervals),
   λ tops bins d. (walk-start _ _ _, rw (make-all _ _ (sizes _ bins) (d .sound)) (writing-start _ _ _ _ _)),
@@ -70,13 +74,27 @@ loop-holds c = (
 abbrev entry : tie.At-loop Inv-loop μ-loop → tie.Start Inv-loop μ-loop
 entry c = c .before .before .before .before .before .before .before .before
 
+-- where it starts
+abbrev start : tie.At-loop Inv-loop μ-loop → ℕ
+start c = before (entry c .args .ends .now) (c .loop .i)
+
+-- what its plan asks for
+turn-at
+    : (c : tie.At-loop Inv-loop μ-loop)
+    → let s = entry c in
+    IntervalAt (s .args .ends .now) (s .args .blocks .now) (s .args .adjustments .now) (c .loop .i) (start c) (c .loop .moved)
+turn-at c =
+    let d = entry c .pre .holds .drains in
+    let (walk, _) = c .loop .inv .1 _ _ d in
+    interval-at _ _ (d .sound) _ _ _ (c .loop .inv .0) (walk .starts) (walk .below)
+
 -- its plan, with the m new buckets behind it
 module _
     (c : tie.At-loop Inv-loop μ-loop)
     (p : Plan)
     (e
     : p
-    ≡ plan (getD (entry c .args .dues .now) (getD (entry c .args .blocks .now) (c .loop .i) 0) 0) (c .loop .start)
+    ≡ plan (getD (entry c .args .dues .now) (getD (entry c .args .blocks .now) (c .loop .i) 0) 0) (start c)
     (lentInterval (a (entry c) (entry c .pre .one)) (c .loop .i)) (c .loop .moved))
     (m : ℕ)
     (q : m ≡ leftBehind (entry c .args .h) (entry c .args .buckets) (c .loop .i))
@@ -89,18 +107,18 @@ module _
       turn-made
           : let s = sizes (entry c .args .buckets) bins in
           Front
-          (toMake (entry c .args .h) (a (entry c) tops) s i (c .loop .start) (c .loop .moved))
+          (toMake (entry c .args .h) (a (entry c) tops) s i (start c) (c .loop .moved))
           (made p (lentInterval (a (entry c) tops) i) (entry c .args .h .«block_count») m)
           (toMake (entry c .args .h) (a (entry c) tops) s (i + 1) (getD (entry c .args .ends .now) i 0) (p .moved))
       turn-made =
-          made-first _ _ (sizes (entry c .args .buckets) bins) (d .sound) i (c .loop .start) (c .loop .moved) (c .loop .inv .0) p
+          made-first _ _ (sizes (entry c .args .buckets) bins) (d .sound) i (start c) (c .loop .moved) (c .loop .inv .0) p
           (planned _ _ (d .sound) _ (entry c .args .dues .now) (d .after) _ _ _ (c .loop .inv .0) _ e) m q
 
       turn-walk
           : Walk (entry c .args .h) (a (entry c) tops) (sizes (entry c .args .buckets) bins)
           (i + 1) (getD (entry c .args .ends .now) i 0) (p .moved)
       turn-walk =
-          walk-next _ _ _ _ (c .loop .start) (c .loop .moved) (c .loop .inv .0) _
+          walk-next _ _ _ _ (start c) (c .loop .moved) (c .loop .inv .0) _
           (planned _ _ (d .sound) _ (entry c .args .dues .now) (d .after) _ _ _ (c .loop .inv .0) _ e)
           (d .sound) (c .loop .inv .1 tops bins d .0)
 
@@ -121,17 +139,11 @@ module _
           writing-part (c .loop .inv .1 _ _ d .1) (turn-made _ _ d) (room-less (omega arith) (given .room)),
         )
 
+before-requires : tie.Need-before-requires Inv-loop μ-loop
+before-requires c κs = omega (arith, entry (c .before) .pre .holds .drains .sound .endsLong)
+
 plan-at-requires : tie.Need-plan-at-requires Inv-loop μ-loop
-plan-at-requires c κs =
-    let given = entry (c .before) .pre .holds in
-    let (walk, _) = c .before .loop .inv .1 _ _ (given .drains) in
-    interval-at _ _ (given .drains .sound) _ _ _ (c .before .loop .inv .0) (walk .starts) (walk .below)
-
-mul-end : tie.Need-mul-end Inv-loop μ-loop
-mul-end c = omega arith
-
-shared-slice-read-end : tie.Need-shared-slice-read-end Inv-loop μ-loop
-shared-slice-read-end c = omega arith
+plan-at-requires c κs = rw (c .before2 .ensures) (turn-at (c .before .before))
 
 mul-write-parts : tie.Need-mul-write-parts Inv-loop μ-loop
 mul-write-parts c = omega arith
@@ -145,16 +157,30 @@ mul-write-parts-2 c = omega arith
 shared-slice-read-write-parts-2 : tie.Need-shared-slice-read-write-parts-2 Inv-loop μ-loop
 shared-slice-read-write-parts-2 c = omega arith
 
+mul-write-parts-3 : tie.Need-mul-write-parts-3 Inv-loop μ-loop
+mul-write-parts-3 c = omega arith
+
+shared-slice-read-write-parts-3 : tie.Need-shared-slice-read-write-parts-3 Inv-loop μ-loop
+shared-slice-read-write-parts-3 c = omega arith
+
 -- no new buckets stand behind an interval but the last
-none-behind
-    : (c : tie.In-loop Inv-loop μ-loop)
-    → let s = entry (c .before) in 0 ≡ leftBehind (s .args .h) (s .args .buckets) (c .before .loop .i)
-none-behind c = sym (behind-none _ _ _ (omega arith))
+module _ (c : tie.After-plan-at Inv-loop μ-loop) where
+  abbrev at : tie.At-loop Inv-loop μ-loop
+  at = c .before .before .before
+
+  none-behind : 0 ≡ leftBehind (entry at .args .h) (entry at .args .buckets) (at .loop .i)
+  none-behind = sym (behind-none _ _ _ (omega arith))
+
+  its-plan
+      : c .plan-at .result
+      ≡ plan (getD (entry at .args .dues .now) (getD (entry at .args .blocks .now) (at .loop .i) 0) 0) (start at)
+      (lentInterval (a (entry at) (entry at .pre .one)) (at .loop .i)) (at .loop .moved)
+  its-plan = rw (c .before .before2 .ensures) at (c .plan-at .ensures)
 
 write-parts-requires : tie.Need-write-parts-requires Inv-loop μ-loop
 write-parts-requires c κs =
     let p = c .before .before .before .before .before .before in
-    turn-ready (p .before .before) _ (p .plan-at .ensures) 0 (none-behind (p .before))
+    turn-ready (at p) _ (its-plan p) 0 (none-behind p)
 
 add-i : tie.Need-add-i Inv-loop μ-loop
 add-i c = omega arith
@@ -165,36 +191,39 @@ loop-less c = omega arith
 loop-again : tie.Need-loop-again Inv-loop μ-loop
 loop-again c =
     let written = c .before .before .before .before .before .before in
-    let p = written .before .before .before .before .before .before .before in
-    let at = p .before .before in (
+    let p = written .before .before .before .before .before .before .before in (
       omega arith,
       λ tops bins d.
-          let made = turn-made at _ (p .plan-at .ensures) 0 (none-behind (p .before)) tops bins d in
-          let stored = written .write-parts .ensures in (
-            turn-walk at _ (p .plan-at .ensures) 0 (none-behind (p .before)) tops bins d,
-            writing-more (at .loop .inv .1 tops bins d .1) _ made (stored .1) (stored .0),
+          let made = turn-made (at p) _ (its-plan p) 0 (none-behind p) tops bins d in
+          let stored = written .write-parts .ensures in
+          rw (before-next (entry (at p) .args .ends .now) (at p .loop .i)) (
+            turn-walk (at p) _ (its-plan p) 0 (none-behind p) tops bins d,
+            writing-more (at p .loop .inv .1 tops bins d .1) _ made (stored .1) (stored .0),
           ),
     )
 
 -- THE LAST INTERVAL
 
--- all new buckets stand behind it
-all-behind
-    : (c : tie.After-loop Inv-loop μ-loop)
-    → let s = entry (c .before) in s .args .buckets - s .args .h .buckets ≡ leftBehind (s .args .h) (s .args .buckets) (c .before .loop .i)
-all-behind c = sym (behind-all _ _ _ (omega arith))
+before-requires-2 : tie.Need-before-requires-2 Inv-loop μ-loop
+before-requires-2 c κs = omega (arith, entry (c .before) .pre .holds .drains .sound .endsLong)
 
 plan-at-requires-2 : tie.Need-plan-at-requires-2 Inv-loop μ-loop
-plan-at-requires-2 c κs =
-    let given = entry (c .before) .pre .holds in
-    let (walk, _) = c .before .loop .inv .1 _ _ (given .drains) in
-    interval-at _ _ (given .drains .sound) _ _ _ (c .before .loop .inv .0) (walk .starts) (walk .below)
+plan-at-requires-2 c κs = rw (c .before3 .ensures) (turn-at (c .before .before))
 
-mul-write-parts-3 : tie.Need-mul-write-parts-3 Inv-loop μ-loop
-mul-write-parts-3 c = omega arith
+-- all new buckets stand behind it
+module _ (c : tie.After-plan-at2 Inv-loop μ-loop) where
+  abbrev last : tie.At-loop Inv-loop μ-loop
+  last = c .before .before .before
 
-shared-slice-read-write-parts-3 : tie.Need-shared-slice-read-write-parts-3 Inv-loop μ-loop
-shared-slice-read-write-parts-3 c = omega arith
+  all-behind
+      : entry last .args .buckets - entry last .args .h .buckets ≡ leftBehind (entry last .args .h) (entry last .args .buckets) (last .loop .i)
+  all-behind = sym (behind-all _ _ _ (omega arith))
+
+  last-plan
+      : c .plan-at2 .result
+      ≡ plan (getD (entry last .args .dues .now) (getD (entry last .args .blocks .now) (last .loop .i) 0) 0) (start last)
+      (lentInterval (a (entry last) (entry last .pre .one)) (last .loop .i)) (last .loop .moved)
+  last-plan = rw (c .before .before3 .ensures) at (c .plan-at2 .ensures)
 
 mul-write-parts-4 : tie.Need-mul-write-parts-4 Inv-loop μ-loop
 mul-write-parts-4 c = omega arith
@@ -208,70 +237,76 @@ mul-write-parts-5 c = omega arith
 shared-slice-read-write-parts-5 : tie.Need-shared-slice-read-write-parts-5 Inv-loop μ-loop
 shared-slice-read-write-parts-5 c = omega arith
 
+mul-write-parts-6 : tie.Need-mul-write-parts-6 Inv-loop μ-loop
+mul-write-parts-6 c = omega arith
+
+shared-slice-read-write-parts-6 : tie.Need-shared-slice-read-write-parts-6 Inv-loop μ-loop
+shared-slice-read-write-parts-6 c = omega arith
+
 sub-write-parts : tie.Need-sub-write-parts Inv-loop μ-loop
 unfolding table
 sub-write-parts c =
-    let at = c .before .before .before .before .before .before in
+    let at = last (c .before .before .before .before) in
     omega (arith, accepted _ _ (entry at .pre .holds .drains .asked) .moreBuckets)
 
 write-parts-requires-2 : tie.Need-write-parts-requires-2 Inv-loop μ-loop
 write-parts-requires-2 c κs =
     let p = c .before .before .before .before .before .before .before in
-    turn-ready (p .before .before) _ (p .plan-at2 .ensures) _ (all-behind (p .before))
+    turn-ready (last p) _ (last-plan p) _ (all-behind p)
 
 -- it is written, and nothing is left
 module _ (c : tie.After-write-parts2 Inv-loop μ-loop) where
   abbrev p : tie.After-plan-at2 Inv-loop μ-loop
   p = c .before .before .before .before .before .before .before .before
 
-  abbrev at : tie.At-loop Inv-loop μ-loop
-  at = p .before .before
+  abbrev end : tie.At-loop Inv-loop μ-loop
+  end = last p
 
-  module _ (tops : List ℕ) (bins : ℕ) (d : Growth (entry at) tops bins) where
+  module _ (tops : List ℕ) (bins : ℕ) (d : Growth (entry end) tops bins) where
     abbrev t : Table
-    t = table (entry at .args .h) (a (entry at) tops)
+    t = table (entry end .args .h) (a (entry end) tops)
 
     abbrev s : Shape
-    s = sizes (entry at .args .buckets) bins
+    s = sizes (entry end .args .buckets) bins
 
     abbrev whole : List Interval
     whole = drained t s
 
     abbrev rest : List Interval
     rest =
-        toMake (entry at .args .h) (a (entry at) tops) s
-        (at .loop .i + 1) (getD (entry at .args .ends .now) (at .loop .i) 0) (p .plan-at2 .result .moved)
+        toMake (entry end .args .h) (a (entry end) tops) s
+        (end .loop .i + 1) (getD (entry end .args .ends .now) (end .loop .i) 0) (p .plan-at2 .result .moved)
 
     none-left : rest ≡ []
     none-left = make-none _ _ _ _ _ _ (omega arith)
 
     all-written
         : Writing 0 (c .write-parts2 .result) whole rest
-        (entry at .args .new-ends .now) (entry at .args .new-blocks .now) (entry at .args .new-adjustments .now)
+        (entry end .args .new-ends .now) (entry end .args .new-blocks .now) (entry end .args .new-adjustments .now)
         (c .write-parts2 .last .1 .1 .1 .1 .1 .1 .1 .0)
         (c .write-parts2 .last .1 .1 .1 .1 .1 .1 .1 .1 .0)
         (c .write-parts2 .last .1 .1 .1 .1 .1 .1 .1 .1 .1 .0)
     all-written =
-        let made = turn-made at _ (p .plan-at2 .ensures) _ (all-behind (p .before)) tops bins d in
+        let made = turn-made end _ (last-plan p) _ (all-behind p) tops bins d in
         let stored = c .write-parts2 .ensures in
-        writing-more (at .loop .inv .1 tops bins d .1) _ made (stored .1) (stored .0)
+        writing-more (end .loop .inv .1 tops bins d .1) _ made (stored .1) (stored .0)
 
     all-counted : c .write-parts2 .result ≡ length whole
     all-counted = omega (arith, writing-all all-written none-left)
 
     all-moved : p .plan-at2 .result .moved ≡ movedAfter t s 0 (t .intervals) 0
-    all-moved = walk-end _ _ _ _ _ _ (omega arith) (turn-walk at _ (p .plan-at2 .ensures) _ (all-behind (p .before)) tops bins d)
+    all-moved = walk-end _ _ _ _ _ _ (omega arith) (turn-walk end _ (last-plan p) _ (all-behind p) tops bins d)
 
-  growth : Growth (entry at) (entry at .pre .one) (entry at .pre .other)
-  growth = entry at .pre .holds .drains
+  growth : Growth (entry end) (entry end .pre .one) (entry end .pre .other)
+  growth = entry end .pre .holds .drains
 
   place-fits : c .write-parts2 .result < 2 ^ 32
   place-fits =
       let sound = growth .sound in
       omega (arith, all-counted _ _ growth, drained-most _ _ (s _ _ growth) sound, sound .intervalLimit, sound .blockLimit)
 
-cast-t35 : tie.Need-cast-t35 Inv-loop μ-loop
-cast-t35 c = omega (arith, place-fits (c .before .before .before .before .before .before))
+cast-t37 : tie.Need-cast-t37 Inv-loop μ-loop
+cast-t37 c = omega (arith, place-fits (c .before .before .before .before .before .before))
 
 same-length : tie.Need-same-length Inv-loop μ-loop
 same-length c =
@@ -304,27 +339,29 @@ write-drained-spec =
     cast-last
     sub-last
     loop-holds
+    before-requires
     plan-at-requires
-    mul-end
-    shared-slice-read-end
     mul-write-parts
     shared-slice-read-write-parts
     mul-write-parts-2
     shared-slice-read-write-parts-2
+    mul-write-parts-3
+    shared-slice-read-write-parts-3
     write-parts-requires
     add-i
     loop-less
     loop-again
+    before-requires-2
     plan-at-requires-2
-    mul-write-parts-3
-    shared-slice-read-write-parts-3
     mul-write-parts-4
     shared-slice-read-write-parts-4
     mul-write-parts-5
     shared-slice-read-write-parts-5
+    mul-write-parts-6
+    shared-slice-read-write-parts-6
     sub-write-parts
     write-parts-requires-2
-    cast-t35
+    cast-t37
     same-length
     same-length-2
     same-length-3
