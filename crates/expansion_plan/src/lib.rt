@@ -111,7 +111,7 @@ pub fn dues_after(h: Header, tops: &[u32], buckets: u32, bins: u32, dues: &mut [
 }
 
 // Whether some of the `count` old blocks is due less than it has, from the dues before and after the growth.
-pub fn some_fall(count: u32, olds: &[u32; BLOCKS], dues: &[u32; BLOCKS]) -> bool
+pub fn some_fall<'a>(count: u32, olds: &'a [u32; BLOCKS], dues: &'a [u32; BLOCKS]) -> bool
     requires { ⌜ count ≤ maxBlocks ⌝ }
     ensures { λ r.
         ⌜

@@ -49,9 +49,9 @@ blocks-after-requires c κs = search needs
 
 accepted-requires : tie.Need-accepted-requires
 accepted-requires c κs =
-    let counting = c .before .before .before .before .before .before in
+    let counting = c .before .before .before .before .before .before .before in
     let falling = counting .before in
-    let shared = falling .before .before .before in
+    let shared = falling .before .before .before .before in
     let held = shared .before .before in
     let accepted = held .before .before in
     let (sound, room) = start accepted .pre in
