@@ -119,7 +119,7 @@ pub fn grown(
     };
     expansion_plan::dues_before(header, tops, &mut shares.olds);
     expansion_plan::dues_after(header, tops, buckets, bins, &mut shares.dues);
-    let falls = expansion_plan::some_fall(header.block_count, &shares.olds, &shares.dues);
+    let falls = expansion_plan::some_fall(header, tops, buckets, bins);
     let block_count = expansion_plan::blocks_after(header, tops, bins);
     accepted(
         header,
