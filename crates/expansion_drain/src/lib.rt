@@ -39,7 +39,30 @@ pub fn write_interval(
     adjustments[o] = adjustment;
 }
 
-// Writes two intervals, at places o and o + 1.
+// The same for an interval of the new block. Its stores stand in another order, so that the compiler does not make one of them
+// and those of an interval that stays.
+fn write_moved(
+    end: u32,
+    block: u32,
+    adjustment: u32,
+    o: usize,
+    ends: &mut [u32],
+    blocks: &mut [u32],
+    adjustments: &mut [u32],
+)
+    requires { ⌜ Room (o + 1) (now ends) (now blocks) (now adjustments) ⌝ }
+    ensures { λ _.
+        ⌜
+        Stored o (interval end block adjustment ∷ []) (now (ends .entry)) (now (blocks .entry)) (now (adjustments .entry)) (now (ends .exit))
+        (now (blocks .exit)) (now (adjustments .exit))
+        ⌝ }
+{
+    adjustments[o] = adjustment;
+    blocks[o] = block;
+    ends[o] = end;
+}
+
+// Writes two intervals, at places o and o + 1: the second one is of the new block.
 fn write_two(
     end: u32,
     block: u32,
@@ -60,7 +83,7 @@ fn write_two(
         ⌝ }
 {
     write_interval(end, block, adjustment, o, ends, blocks, adjustments);
-    write_interval(
+    write_moved(
         next_end,
         next_block,
         next_adjustment,
@@ -152,7 +175,7 @@ fn write_parts(
             adjustments,
         ),
         Action::Move { adjustment: shift } => {
-            write_interval(reach, g, shift, o, ends, blocks, adjustments);
+            write_moved(reach, g, shift, o, ends, blocks, adjustments);
             o + 1
         }
         Action::Split {
