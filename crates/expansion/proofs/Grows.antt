@@ -1,10 +1,11 @@
 -- Laws of a growth's reply. Assumes nothing.
-use Prim.Native.Nat.{ℕ, _≤_, _<_}
+use Prim.Native.Nat.{ℕ, _≤_}
 use mathlib.Core.Path.{_≡_, sym, _∙_, ap}
+use mathlib.Core.Bool.{true, false}
 use mathlib.Core.List.{[], _∷_}
 use native.Mathlib.Omega.{arith}
 use lib.ListN.{length}
-use borrow.Author.Tests.{lt-ltb, le-ltb}
+use borrow.Author.Tests.{ltb-false}
 use Rattle.model.specs.Basics.{if_then_else_}
 use Rattle.model.specs.Limits.{maxIntervals}
 use Rattle.model.specs.Table.{Shape, Table, shape, Arrays, header, written}
@@ -16,6 +17,11 @@ use Rattle.model.specs.declared.reply.TableReply.{TableReply}
 use Rattle.model.proofs.Refusals.{first-found, first-after, refused}
 use Rattle.model.proofs.Soundness.{growth-numbered}
 use Rattle.expansion.specs.Replies.{growRefusal, GrowReply}
+
+-- where the intervals are not too many they have their place
+pub not-full : (t : Table) (s : Shape) → intervalsFull t s ≡ false → length (expanded t s .intervals) ≤ maxIntervals
+unfolding intervalsFull
+not-full t s e = ltb-false maxIntervals (length (expanded t s .intervals)) e
 
 abbrev refusal : ℕ → TableReply
 refusal r = record { refusal = r; moved = 0; header = noHeader }
@@ -42,24 +48,21 @@ module _ (t : Table) (s : Shape) (out : Arrays) (r : ℕ) (e : r ≡ first (grow
   next z = first-after (growthTests t s) _ (growth-numbered t s) (sym e ∙ z)
 
   -- refused by 8
-  pub grow-full
-      : r ≡ 0 → maxIntervals < length (expanded t s .intervals) → GrowReply t s out out (refusal 8)
-  unfolding tableReply arraysAfter intervalsFull first answer if_then_else_
-  grow-full z l =
-      let w = lt-ltb maxIntervals (length (expanded t s .intervals)) l in
+  pub grow-full : r ≡ 0 → intervalsFull t s ≡ true → GrowReply t s out out (refusal 8)
+  unfolding tableReply arraysAfter first answer if_then_else_
+  grow-full z w =
       let eight : growRefusal t s ≡ 8 = next z ∙ rw w in
       record { reply = rw (next z, w); least = λ q. absurd (omega arith); lent = rw (next z, w) }
 
   -- accepted: a reply of the new table's numbers
   pub grow-accepted
-      : (left : Arrays) (z : TableReply) → r ≡ 0 → length (expanded t s .intervals) ≤ maxIntervals → z .refusal ≡ 0
+      : (left : Arrays) (z : TableReply) → r ≡ 0 → intervalsFull t s ≡ false → z .refusal ≡ 0
       → z .header .buckets ≡ s .buckets → z .header .«block_count» ≡ length (newTops t s)
       → z .header .«interval_count» ≡ length (expanded t s .intervals)
       → z .moved ≡ moved t (expanded t s) → z .moved ≡ least (shape t) s
       → left ≡ written (expanded t s) out → GrowReply t s out left z
-  unfolding tableReply arraysAfter intervalsFull first answer if_then_else_ header expanded
-  grow-accepted left z ok few accepted buckets blocks intervals count formula stored =
-      let w = le-ltb maxIntervals (length (expanded t s .intervals)) few in
+  unfolding tableReply arraysAfter first answer if_then_else_ header expanded
+  grow-accepted left z ok w accepted buckets blocks intervals count formula stored =
       record {
         reply =
             rw (next ok, w)

@@ -7,15 +7,20 @@ ghost use Rattle.model.specs.Refusal.{roomShort};
 ghost use Rattle.expansion_count.specs.Given.{Grows};
 ghost use Rattle.expansion.specs.Replies.{GrowReply, MovesReply};
 use model::limits::BLOCKS;
-use model::limits::MAX_INTERVALS;
 use model::reply::RelocationsReply;
 use model::reply::TableReply;
 use model::table::Header;
 use sizes::refused_table;
 
+// What each block has, and what it is due after a growth: one array behind the other, so that they are cleared at once.
+struct Shares {
+    olds: [u32; BLOCKS],
+    dues: [u32; BLOCKS],
+}
+
 // A growth that rules 1 to 5 accept. `olds` and `dues` are what each block has, and is due after it; `falls` says that some old
 // block is due less, and `block_count` is the number of blocks after it.
-fn accepted(
+fn accepted<'a>(
     header: Header,
     tops: &[u32],
     ends: &[u32],
@@ -23,8 +28,8 @@ fn accepted(
     adjustments: &[u32],
     buckets: u32,
     bins: u32,
-    olds: &[u32; BLOCKS],
-    dues: &[u32; BLOCKS],
+    olds: &'a [u32; BLOCKS],
+    dues: &'a [u32; BLOCKS],
     falls: bool,
     block_count: u32,
     new_tops: &mut [u32],
@@ -40,7 +45,7 @@ fn accepted(
         (given «new_tops» «new_ends» «new_blocks» «new_adjustments») (left «new_tops» «new_ends» «new_blocks» «new_adjustments») r
         ⌝ }
 {
-    let growth = expansion_count::measure(
+    let full = expansion_count::intervals_full(
         header,
         ends,
         blocks,
@@ -51,10 +56,10 @@ fn accepted(
         falls,
         block_count,
     );
-    if MAX_INTERVALS < growth.intervals {
+    if full {
         return refused_table(8);
     }
-    expansion_table::write_expanded(
+    let growth = expansion_table::write_expanded(
         header,
         tops,
         ends,
@@ -108,11 +113,13 @@ pub fn grown(
     if wrong != 0 {
         return refused_table(wrong);
     }
-    let mut olds = [0u32; BLOCKS];
-    let mut dues = [0u32; BLOCKS];
-    expansion_plan::dues_before(header, tops, &mut olds);
-    expansion_plan::dues_after(header, tops, buckets, bins, &mut dues);
-    let falls = expansion_plan::some_fall(header.block_count, &olds, &dues);
+    let mut shares = Shares {
+        olds: [0u32; BLOCKS],
+        dues: [0u32; BLOCKS],
+    };
+    expansion_plan::dues_before(header, tops, &mut shares.olds);
+    expansion_plan::dues_after(header, tops, buckets, bins, &mut shares.dues);
+    let falls = expansion_plan::some_fall(header, tops, buckets, bins);
     let block_count = expansion_plan::blocks_after(header, tops, bins);
     accepted(
         header,
@@ -122,8 +129,8 @@ pub fn grown(
         adjustments,
         buckets,
         bins,
-        &olds,
-        &dues,
+        &shares.olds,
+        &shares.dues,
         falls,
         block_count,
         new_tops,

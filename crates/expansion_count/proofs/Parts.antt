@@ -10,7 +10,7 @@ use borrow.Author.Tests.{eq-eqb, ne-eqb, lt-ltb, le-ltb}
 use Rattle.model.specs.Basics.{if_then_else_}
 use Rattle.model.specs.Table.{Shape, Interval, interval, Table, Arrays, table}
 use Rattle.model.specs.Sound.{Sound}
-use Rattle.model.specs.Expansion.{lastBlock, lengthened, parts, extended, planFor, drained, movedAfter}
+use Rattle.model.specs.Expansion.{lastBlock, lengthened, parts, extended, planFor, drained}
 use Rattle.model.specs.declared.plan.Action.the-variants.{Stay, Move, Split}
 use Rattle.model.specs.declared.plan.Plan.{Plan}
 use Rattle.model.specs.declared.table.Header.{Header}
@@ -18,7 +18,7 @@ use Rattle.model.proofs.Counts.{below-or}
 use Rattle.model.proofs.Tables.{lentInterval}
 use Rattle.model.proofs.Wells.{tops-length}
 use Rattle.model.proofs.Walks.{extended-none, walked}
-use Rattle.model.proofs.Steps.{Walk, walk-start, walk-next, walk-end, ahead, end-within, end-last, walked-next, walked-last, walked-drained}
+use Rattle.model.proofs.Steps.{Walk, walk-start, walk-next, ahead, end-within, end-last, walked-next, walked-last, walked-drained}
 use Rattle.expansion_count.specs.Made.{made, leftBehind}
 
 -- a list is `is` and then `behind`
@@ -47,6 +47,16 @@ module _ (p : Plan) (i : Interval) (g m : ℕ) where
   unfolding made parts extended lastBlock lengthened if_then_else_
   made-split b c e = rw (e, eq-eqb g g refl)
 
+-- the new buckets behind interval i
+module _ (h : Header) (b i : ℕ) where
+  pub behind-none : i + 1 < h .«interval_count» → leftBehind h b i ≡ 0
+  unfolding leftBehind if_then_else_
+  behind-none l = rw (lt-ltb (i + 1) (h .«interval_count») l)
+
+  pub behind-all : h .«interval_count» ≤ i + 1 → leftBehind h b i ≡ b - h .buckets
+  unfolding leftBehind if_then_else_
+  behind-all l = rw (le-ltb (i + 1) (h .«interval_count») l)
+
 module _ (h : Header) (a : Arrays) (s : Shape) where
   abbrev t : Table
   t = table h a
@@ -63,15 +73,6 @@ module _ (h : Header) (a : Arrays) (s : Shape) where
   unfolding toMake if_then_else_
   make-some i start w l = rw (lt-ltb i (h .«interval_count») l)
 
-  -- the new buckets behind interval i
-  pub behind-none : (b i : ℕ) → i + 1 < h .«interval_count» → leftBehind h b i ≡ 0
-  unfolding leftBehind if_then_else_
-  behind-none b i l = rw (lt-ltb (i + 1) (h .«interval_count») l)
-
-  pub behind-all : (b i : ℕ) → h .«interval_count» ≤ i + 1 → leftBehind h b i ≡ b - h .buckets
-  unfolding leftBehind if_then_else_
-  behind-all b i l = rw (le-ltb (i + 1) (h .«interval_count») l)
-
   module _ (sound : Sound h a) where
     -- all that the growth makes
     pub make-all : drained t s ≡ toMake 0 0 0
@@ -83,19 +84,20 @@ module _ (h : Header) (a : Arrays) (s : Shape) where
         → getD (a .ends) i 0 + leftBehind h (s .buckets) i ≤ s .buckets
     behind-fits i l more =
         ⊎-elim
-        (λ n. omega (arith, behind-none (s .buckets) i n, end-within h a sound i l))
-        (λ n. omega (arith, behind-all (s .buckets) i n, end-within h a sound i l))
+        (λ n. omega (arith, behind-none h (s .buckets) i n, end-within h a sound i l))
+        (λ n. omega (arith, behind-all h (s .buckets) i n, end-within h a sound i l))
         (below-or (i + 1) (h .«interval_count»))
 
-    -- what the plan for interval i makes of it comes first
+    -- what the plan for interval i makes of it comes first, with the m new buckets behind it
     pub made-first
         : (i start w : ℕ) → i < h .«interval_count» → (p : Plan) → p ≡ planFor t s start (lentInterval a i) w
+        → (m : ℕ) → m ≡ leftBehind h (s .buckets) i
         → Front
         (toMake i start w)
-        (made p (lentInterval a i) (h .«block_count») (leftBehind h (s .buckets) i))
+        (made p (lentInterval a i) (h .«block_count») m)
         (toMake (i + 1) (getD (a .ends) i 0) (p .moved))
     unfolding made
-    made-first i start w l p e =
+    made-first i start w l p e m q =
         let end = getD (a .ends) i 0 in
         let own = parts (p .action) (lentInterval a i) (length (t .tops)) [] in
         let count = tops-length h a sound in
@@ -107,22 +109,20 @@ module _ (h : Header) (a : Arrays) (s : Shape) where
               walked-next h a s i start w l p e n
               ∙ ap (λ is. is ++ walked t s end (ahead h a (i + 1)) (p .moved))
               (sym (extended-none (length (t .tops)) end (p .moved) own)
-              ∙ ap (λ m. made p (lentInterval a i) (length (t .tops)) m) (sym (behind-none (s .buckets) i n)))
-              ∙ ap (λ is. made p (lentInterval a i) (length (t .tops)) (leftBehind h (s .buckets) i) ++ is)
+              ∙ ap (λ m. made p (lentInterval a i) (length (t .tops)) m) (sym (q ∙ behind-none h (s .buckets) i n)))
+              ∙ ap (λ is. made p (lentInterval a i) (length (t .tops)) m ++ is)
               (sym (make-some (i + 1) end (p .moved) n)))
               (λ n.
               walked-last h a s i start w l p e (omega arith)
               ∙ ap (λ b. extended (length (t .tops)) b (s .buckets - h .buckets) (p .moved) own)
               (sym (end-last h a sound i (omega arith)))
-              ∙ ap (made p (lentInterval a i) (length (t .tops))) (sym (behind-all (s .buckets) i n))
+              ∙ ap (made p (lentInterval a i) (length (t .tops))) (sym (q ∙ behind-all h (s .buckets) i n))
               ∙ sym (append-nil _)
-              ∙ ap (λ is. made p (lentInterval a i) (length (t .tops)) (leftBehind h (s .buckets) i) ++ is)
+              ∙ ap (λ is. made p (lentInterval a i) (length (t .tops)) m ++ is)
               (sym (make-none (i + 1) end (p .moved) n)))
               (below-or (i + 1) (h .«interval_count»))
               ∙ ap
-              (λ g.
-              made p (lentInterval a i) g (leftBehind h (s .buckets) i)
-              ++ toMake (i + 1) end (p .moved))
+              (λ g. made p (lentInterval a i) g m ++ toMake (i + 1) end (p .moved))
               count;
         }
 
@@ -142,11 +142,8 @@ module _ (h : Header) (a : Arrays) (s : Shape) where
     making-more n i start w m l p e k c =
         record {
           walk = walk-next h a s i start w l p e sound (m .walk);
-          whole = omega (arith, m .whole, simp length-append at (ap length (made-first i start w l p e .joined)));
+          whole = omega (arith, m .whole, simp length-append at (ap length (made-first i start w l p e _ refl .joined)));
         }
 
-    pub making-end
-        : (n i start w : ℕ) → Making n i start w → h .«interval_count» ≤ i
-        → (n ≡ length (drained t s)) × (w ≡ movedAfter t s 0 (t .intervals) 0)
-    making-end n i start w m l =
-        (omega (arith, m .whole, ap length (make-none i start w l)), walk-end h a s i start w l (m .walk))
+    pub making-end : (n i start w : ℕ) → Making n i start w → h .«interval_count» ≤ i → n ≡ length (drained t s)
+    making-end n i start w m l = omega (arith, m .whole, ap length (make-none i start w l))

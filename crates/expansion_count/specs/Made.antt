@@ -1,4 +1,4 @@
--- What a growth makes of an old interval, and what its counting pass answers. Assumes nothing.
+-- What a growth makes of an old interval, and what it answers. Assumes nothing.
 use Prim.Native.Nat.{ℕ, _+_, _-_}
 use mathlib.Core.Path.{_≡_}
 use mathlib.Core.List.{List, []}
@@ -25,13 +25,13 @@ leftBehind h buckets i = if ltb (i + 1) (h .«interval_count») then 0 else buck
 unfoldable pub pieceOf : Table → Shape → ℕ → ℕ
 pieceOf t s j = if eqb j (lastBlock (t .intervals)) then 0 else gain t s j
 
--- the answer of the counting pass where some old block is due less
+-- the answer of a growth by which some old block is due less
 pub record CountedDrained (t : Table) (s : Shape) (r : Growth) : Type 0 where
   pub intervals : r .intervals ≡ length (drained t s)
   pub moved : r .moved ≡ movedAfter t s 0 (t .intervals) 0
 
--- the answer of the counting pass: the new table's intervals, and the counted moves, which are the number of old buckets whose
--- bin differs and the formula with T
+-- the answer of a growth: the new table's intervals, and the counted moves, which are the number of old buckets whose bin differs
+-- and the formula with T
 pub record Counted (t : Table) (s : Shape) (r : Growth) : Type 0 where
   pub intervals : r .intervals ≡ length (expanded t s .intervals)
   pub moved : r .moved ≡ movedOf t (expanded t s)

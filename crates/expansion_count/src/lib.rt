@@ -1,6 +1,8 @@
-// The counting pass of a growth: how many intervals its table needs, and how many buckets it moves.
+// Whether a growth's table needs too many intervals. A growth makes at most one more for each block after it, so that its intervals
+// are seldom counted before they are written.
 use expansion_plan::plan_at;
 use model::limits::BLOCKS;
+use model::limits::MAX_INTERVALS;
 use model::plan::Action;
 use model::plan::Plan;
 use model::table::Header;
@@ -9,11 +11,12 @@ ghost use mathlib.Core.List.{List};
 ghost use Prim.Native.Nat.{ℕ, _≤_, _<_};
 ghost use lib.ListN.{length};
 ghost use Rattle.model.specs.Table.{Shape, Interval, Table, sizes};
-ghost use Rattle.model.specs.Expansion.{pieces as piecesOf};
+ghost use Rattle.model.specs.Expansion.{pieces as piecesOf, drained, expanded};
+ghost use Rattle.model.specs.Calls.{intervalsFull};
 ghost use Rattle.expansion_count.specs.Given.{Some, Drains, Grows, Shares, NoneFalls, tableWith};
-ghost use Rattle.expansion_count.specs.Made.{made, leftBehind, pieceOf, CountedDrained, Counted};
+ghost use Rattle.expansion_count.specs.Made.{made, leftBehind, pieceOf};
 
-// The intervals of a growth's table, and the buckets that the growth moves.
+// What a growth answers: the intervals of its table, and the buckets that it moves.
 pub struct Growth {
     pub intervals: u32,
     pub moved: u32,
@@ -40,7 +43,7 @@ fn part_count(plan: Plan, left: u32) -> u32
 }
 
 // The new buckets behind old interval i: all of them behind the last one.
-pub fn left_behind(h: Header, buckets: u32, i: usize) -> u32
+fn left_behind(h: Header, buckets: u32, i: usize) -> u32
     requires { ⌜ (i < h .«interval_count») × (h .buckets ≤ buckets) ⌝ }
     ensures { λ r. ⌜ r ≡ leftBehind h buckets i ⌝ }
 {
@@ -58,11 +61,11 @@ fn count_drained(
     adjustments: &[u32],
     buckets: u32,
     dues: &[u32; BLOCKS],
-) -> Growth
+) -> u32
     requires { ⌜ Some (Drains h (now ends) (now blocks) (now adjustments) buckets (now dues)) ⌝ }
     ensures { λ r. ⌜ ((tops : List ℕ) (bins : ℕ)
         → Drains h (now (ends .entry)) (now (blocks .entry)) (now (adjustments .entry)) buckets (now (dues .entry)) tops bins
-        → CountedDrained (tableWith h tops ends blocks adjustments) (sizes buckets bins) r) ⌝ }
+        → r ≡ length (drained (tableWith h tops ends blocks adjustments) (sizes buckets bins))) ⌝ }
 {
     let mut intervals: u32 = 0;
     let mut start: u32 = 0;
@@ -75,7 +78,7 @@ fn count_drained(
         moved = plan.moved;
         i += 1;
     }
-    Growth { intervals, moved }
+    intervals
 }
 
 // What block j gains in an interval of its own: nothing if it is `last`, the last interval's block, which gains in that interval.
@@ -110,10 +113,9 @@ fn count_pieces(last: u32, olds: &[u32; BLOCKS], dues: &[u32; BLOCKS], count: u3
     pieces
 }
 
-// The counting pass: how many intervals the growth's table needs, and how many buckets it moves. `olds` and `dues` are what each
-// block has, and is due after the growth; `falls` says that some old block is due less, and `count` is the number of blocks after
-// it.
-pub fn measure(
+// The counting pass: how many intervals the growth's table needs. `olds` and `dues` are what each block has, and is due after the
+// growth; `falls` says that some old block is due less, and `count` is the number of blocks after it.
+fn measure(
     h: Header,
     ends: &[u32],
     blocks: &[u32],
@@ -123,19 +125,51 @@ pub fn measure(
     dues: &[u32; BLOCKS],
     falls: bool,
     count: u32,
-) -> Growth
+) -> u32
     requires { ⌜ Some (Grows h (now ends) (now blocks) (now adjustments) buckets (now olds) (now dues) falls count) ⌝ }
     ensures { λ r. ⌜ ((tops : List ℕ) (bins : ℕ)
         → Grows h (now (ends .entry)) (now (blocks .entry)) (now (adjustments .entry))
         buckets (now (olds .entry)) (now (dues .entry)) falls count tops bins
-        → Counted (tableWith h tops ends blocks adjustments) (sizes buckets bins) r) ⌝ }
+        → r ≡ length (expanded (tableWith h tops ends blocks adjustments) (sizes buckets bins) .intervals)) ⌝ }
 {
     if falls {
         return count_drained(h, ends, blocks, adjustments, buckets, dues);
     }
     let last = blocks[h.interval_count as usize - 1];
-    Growth {
-        intervals: h.interval_count + count_pieces(last, olds, dues, count),
-        moved: 0,
+    h.interval_count + count_pieces(last, olds, dues, count)
+}
+
+// Whether the growth's table needs more intervals than a table may have. They are counted only where they can be too many.
+pub fn intervals_full(
+    h: Header,
+    ends: &[u32],
+    blocks: &[u32],
+    adjustments: &[u32],
+    buckets: u32,
+    olds: &[u32; BLOCKS],
+    dues: &[u32; BLOCKS],
+    falls: bool,
+    count: u32,
+) -> bool
+    requires { ⌜ Some (Grows h (now ends) (now blocks) (now adjustments) buckets (now olds) (now dues) falls count) ⌝ }
+    ensures { λ r. ⌜ ((tops : List ℕ) (bins : ℕ)
+        → Grows h (now (ends .entry)) (now (blocks .entry)) (now (adjustments .entry))
+        buckets (now (olds .entry)) (now (dues .entry)) falls count tops bins
+        → r ≡ intervalsFull (tableWith h tops ends blocks adjustments) (sizes buckets bins)) ⌝ }
+{
+    if h.interval_count + count <= MAX_INTERVALS {
+        return false;
     }
+    let intervals = measure(
+        h,
+        ends,
+        blocks,
+        adjustments,
+        buckets,
+        olds,
+        dues,
+        falls,
+        count,
+    );
+    MAX_INTERVALS < intervals
 }

@@ -126,3 +126,8 @@ module _ {q o : ℕ} {whole rest : List Interval} {es bs cs es′ bs′ cs′ : 
         subst (λ l. Stored q l es bs cs es′ bs′ cs′)
         (sym (append-nil (w .done)) ∙ ap (λ l. w .done ++ l) (sym e) ∙ w .split)
         (w .stored)
+
+    -- and the place is behind the whole
+    pub writing-all : rest ≡ [] → o ≡ q + length whole
+    writing-all e =
+        omega (arith, w .cursor, simp length-append at (ap length (w .split)), ap length e)

@@ -1,11 +1,12 @@
 // The intervals of a growth by which some old block is due less. Every entry is written once: the last moved part gets its
 // final end when it is written.
-use expansion_count::left_behind;
+use expansion_count::Growth;
 use expansion_plan::plan_at;
 use model::limits::BLOCKS;
 use model::plan::Action;
 use model::plan::Plan;
 use model::table::Header;
+use table::before;
 ghost use mathlib.Core.List.{List, [], _∷_};
 ghost use Prim.Native.Nat.{ℕ, _+_, _^_, _≤_, _<_};
 ghost use mathlib.Core.Path.{_≡_};
@@ -13,7 +14,7 @@ ghost use lib.ListN.{length};
 ghost use Rattle.model.specs.Table.{interval, sizes};
 ghost use Rattle.model.specs.Expansion.{drained};
 ghost use Rattle.expansion_count.specs.Given.{Some, Drains, tableWith};
-ghost use Rattle.expansion_count.specs.Made.{made};
+ghost use Rattle.expansion_count.specs.Made.{made, CountedDrained};
 ghost use Rattle.expansion_drain.specs.Stored.{Room, Stored, staying, DrainsInto};
 
 // Writes one interval at place o.
@@ -38,7 +39,30 @@ pub fn write_interval(
     adjustments[o] = adjustment;
 }
 
-// Writes two intervals, at places o and o + 1.
+// The same for an interval of the new block. Its stores stand in another order, so that the compiler does not make one of them
+// and those of an interval that stays.
+fn write_moved(
+    end: u32,
+    block: u32,
+    adjustment: u32,
+    o: usize,
+    ends: &mut [u32],
+    blocks: &mut [u32],
+    adjustments: &mut [u32],
+)
+    requires { ⌜ Room (o + 1) (now ends) (now blocks) (now adjustments) ⌝ }
+    ensures { λ _.
+        ⌜
+        Stored o (interval end block adjustment ∷ []) (now (ends .entry)) (now (blocks .entry)) (now (adjustments .entry)) (now (ends .exit))
+        (now (blocks .exit)) (now (adjustments .exit))
+        ⌝ }
+{
+    adjustments[o] = adjustment;
+    blocks[o] = block;
+    ends[o] = end;
+}
+
+// Writes two intervals, at places o and o + 1: the second one is of the new block.
 fn write_two(
     end: u32,
     block: u32,
@@ -59,7 +83,7 @@ fn write_two(
         ⌝ }
 {
     write_interval(end, block, adjustment, o, ends, blocks, adjustments);
-    write_interval(
+    write_moved(
         next_end,
         next_block,
         next_adjustment,
@@ -151,7 +175,7 @@ fn write_parts(
             adjustments,
         ),
         Action::Move { adjustment: shift } => {
-            write_interval(reach, g, shift, o, ends, blocks, adjustments);
+            write_moved(reach, g, shift, o, ends, blocks, adjustments);
             o + 1
         }
         Action::Split {
@@ -175,7 +199,8 @@ fn write_parts(
     }
 }
 
-// Some old block is due less: one pass over the old intervals.
+// Some old block is due less: one pass over the old intervals, with the new buckets behind the last one. The place that it comes to
+// is the number of intervals.
 pub fn write_drained(
     h: Header,
     ends: &[u32],
@@ -186,39 +211,56 @@ pub fn write_drained(
     new_ends: &mut [u32],
     new_blocks: &mut [u32],
     new_adjustments: &mut [u32],
-)
+) -> Growth
     requires { ⌜
         Some
         (DrainsInto (now «new_ends») (now «new_blocks») (now «new_adjustments») h (now ends) (now blocks) (now adjustments) buckets (now dues))
         ⌝ }
-    ensures { λ _. ⌜ ((tops : List ℕ) (bins : ℕ)
+    ensures { λ r. ⌜ ((tops : List ℕ) (bins : ℕ)
         → Drains h (now (ends .entry)) (now (blocks .entry)) (now (adjustments .entry)) buckets (now (dues .entry)) tops bins
-        → Stored 0 (drained (tableWith h tops ends blocks adjustments) (sizes buckets bins))
+        → CountedDrained (tableWith h tops ends blocks adjustments) (sizes buckets bins) r
+        × Stored 0 (drained (tableWith h tops ends blocks adjustments) (sizes buckets bins))
         (now («new_ends» .entry)) (now («new_blocks» .entry)) (now («new_adjustments» .entry))
         (now («new_ends» .exit)) (now («new_blocks» .exit)) (now («new_adjustments» .exit))) ⌝ }
 {
-    let mut start: u32 = 0;
+    let last = h.interval_count as usize - 1;
     let mut moved: u32 = 0;
     let mut o: usize = 0;
     let mut i: usize = 0;
-    while i < h.interval_count as usize {
+    while i < last {
+        let start = before(ends, i);
         let plan = plan_at(ends, blocks, adjustments, dues, i, start, moved);
-        let left = left_behind(h, buckets, i);
-        let end = ends[i];
         o = write_parts(
             plan,
-            end,
+            ends[i],
             blocks[i],
             adjustments[i],
             h.block_count,
-            left,
+            0,
             o,
             new_ends,
             new_blocks,
             new_adjustments,
         );
-        start = end;
         moved = plan.moved;
         i += 1;
+    }
+    let start = before(ends, i);
+    let plan = plan_at(ends, blocks, adjustments, dues, i, start, moved);
+    let place = write_parts(
+        plan,
+        ends[i],
+        blocks[i],
+        adjustments[i],
+        h.block_count,
+        buckets - h.buckets,
+        o,
+        new_ends,
+        new_blocks,
+        new_adjustments,
+    );
+    Growth {
+        intervals: place as u32,
+        moved: plan.moved,
     }
 }

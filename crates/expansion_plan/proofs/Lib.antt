@@ -1,1 +1,2 @@
+pub mod Falls
 pub mod Turns

@@ -5,7 +5,7 @@ ghost use mathlib.Core.Path.{_≡_};
 ghost use lib.ListN.{length, getD, take, replicate};
 ghost use Rattle.model.specs.Lent.{TopsSound, lent};
 ghost use Rattle.model.specs.Limits.{maxBlocks};
-ghost use Rattle.model.specs.Table.{Shape, Table, arrays, interval, sizes};
+ghost use Rattle.model.specs.Table.{Shape, arrays, interval, sizes};
 ghost use Rattle.model.specs.Due.{dueOfBlock};
 ghost use Rattle.model.specs.Refusal.{first};
 ghost use Rattle.model.specs.Sound.{Sound};
@@ -110,22 +110,14 @@ pub fn dues_after(h: Header, tops: &[u32], buckets: u32, bins: u32, dues: &mut [
     }
 }
 
-// Whether some of the `count` old blocks is due less than it has, from the dues before and after the growth.
-pub fn some_fall(count: u32, olds: &[u32; BLOCKS], dues: &[u32; BLOCKS]) -> bool
-    requires { ⌜ count ≤ maxBlocks ⌝ }
-    ensures { λ r.
-        ⌜
-        ((t : Table) (s : Shape) → length (t .tops) ≡ count → DuesBefore t (now (olds .entry)) → DuesAfter t s (now (dues .entry)) → r ≡ someFall t s)
-        ⌝ }
+// Whether some old block is due less than it has. None is then due more, so the old bins are due less than the old buckets.
+pub fn some_fall(h: Header, tops: &[u32], buckets: u32, bins: u32) -> bool
+    requires { ⌜ TopsAsked h (now tops) (sizes buckets bins) ⌝ }
+    ensures { λ r. ⌜ ((ends blocks adjustments : List ℕ) → Sound h (arrays (now (tops .entry)) ends blocks adjustments)
+        → r ≡ someFall (lent h (now (tops .entry)) ends blocks adjustments) (sizes buckets bins)) ⌝ }
 {
-    let mut j: usize = 0;
-    while j < count as usize {
-        if dues[j] < olds[j] {
-            return true;
-        }
-        j += 1;
-    }
-    false
+    let old = bin_count(h, tops);
+    due_below(buckets / bins, buckets % bins, old) < h.buckets
 }
 
 // The plan for an interval whose block is due `due`, where `moved` buckets have moved before it. It does not depend on which

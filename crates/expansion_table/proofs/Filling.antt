@@ -13,7 +13,7 @@ use Rattle.model.specs.declared.table.Header.{Header}
 use Rattle.model.proofs.Entries.{sets-over}
 use Rattle.model.proofs.Tables.{length-from, from-ext, from-getD, map-from, lentInterval}
 use Rattle.model.proofs.Filled.{lastOf}
-use Rattle.model.proofs.Steps.{last-lent, lengthened-lent, end-last, filled-within}
+use Rattle.model.proofs.Steps.{last-lent, lengthened-lent, end-last, filled-within, filled-length}
 use Rattle.expansion_count.specs.Given.{Some, Fills}
 use Rattle.expansion_drain.specs.Stored.{Room, Stored}
 use Rattle.expansion_count.proofs.Pieces.{fills-well, fills-asked, fills-up, fills-rise, fills-shares, gain-from, blocks-few, had-below}
@@ -146,6 +146,12 @@ module _ (h : Header) (a : Arrays) (s : Shape) (olds dues : List ℕ) (f : Fills
           room = room;
         };
       }
+
+  -- how many they are
+  pub filled-pieces
+      : (e n : ℕ) → e ≡ lengthTo (table h a) s → n ≡ length (newTops (table h a) s)
+      → length (filled (table h a) s) ≡ h .«interval_count» + length (pieces (table h a) s e 0 n)
+  filled-pieces e n q c = rw (q, c) (filled-length h a s (f .sound))
 
   -- so what is stored one after the other are the filled intervals
   pub filled-stored

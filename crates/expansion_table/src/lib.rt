@@ -1,4 +1,5 @@
 // The writing pass of a growth: its tops, and its intervals by the case.
+use expansion_count::Growth;
 use expansion_count::piece;
 use expansion_drain::write_drained;
 use expansion_drain::write_interval;
@@ -8,7 +9,7 @@ use table::copy;
 ghost use mathlib.Core.Bool.{false};
 ghost use mathlib.Core.List.{List};
 ghost use mathlib.Core.Path.{_≡_};
-ghost use Prim.Native.Nat.{ℕ, _≤_};
+ghost use Prim.Native.Nat.{ℕ, _+_, _≤_};
 ghost use lib.ListN.{length, take};
 ghost use Rattle.model.specs.Lent.{given, left, arraysNow, tableGiven, tableNow};
 ghost use Rattle.model.specs.Limits.{maxBlocks, maxIntervals};
@@ -16,12 +17,13 @@ ghost use Rattle.model.specs.Table.{Shape, Table, arrays, over, written, sizes}
 ghost use Rattle.model.specs.Refusal.{roomShort};
 ghost use Rattle.model.specs.Expansion.{newTops, pieces as piecesOf, filled, expanded};
 ghost use Rattle.expansion_count.specs.Given.{Some, Grows, Fills, Shares, tableWith};
+ghost use Rattle.expansion_count.specs.Made.{Counted};
 ghost use Rattle.expansion_drain.specs.Stored.{Room, Stored};
 ghost use Rattle.expansion_table.specs.Copied.{Copied};
 ghost use Rattle.expansion_table.specs.Into.{PiecesInto, FillsInto, GrowsInto};
 
 // No old block is due less: one pass over the `count` blocks, whose pieces begin at bucket `start` and go to the places from
-// `place` on. `last` is the last old interval's block, which has none.
+// `place` on. `last` is the last old interval's block, which has none. The next place.
 fn write_pieces(
     last: u32,
     olds: &[u32; BLOCKS],
@@ -32,10 +34,11 @@ fn write_pieces(
     new_ends: &mut [u32],
     new_blocks: &mut [u32],
     new_adjustments: &mut [u32],
-)
+) -> usize
     requires { ⌜ Some (PiecesInto (now «new_ends») (now «new_blocks») (now «new_adjustments») last (now olds) (now dues) count start place) ⌝ }
-    ensures { λ _. ⌜ ((t : Table) (s : Shape) → Shares t s last (now (olds .entry)) (now (dues .entry))
-        → Stored place (piecesOf t s start 0 count)
+    ensures { λ r. ⌜ ((t : Table) (s : Shape) → Shares t s last (now (olds .entry)) (now (dues .entry))
+        → (r ≡ place + length (piecesOf t s start 0 count))
+        × Stored place (piecesOf t s start 0 count)
         (now («new_ends» .entry)) (now («new_blocks» .entry)) (now («new_adjustments» .entry))
         (now («new_ends» .exit)) (now («new_blocks» .exit)) (now («new_adjustments» .exit))) ⌝ }
 {
@@ -61,6 +64,7 @@ fn write_pieces(
             o += 1;
         }
     }
+    o
 }
 
 // Copies the first `count` intervals.
@@ -84,7 +88,7 @@ fn copy_intervals(
 }
 
 // No old block is due less: the old intervals, the last one lengthened by what its block gains, and the pieces of the other
-// blocks, of which there are `count` after the growth.
+// blocks, of which there are `count` after the growth. The place that it comes to is the number of intervals.
 fn write_filled(
     h: Header,
     ends: &[u32],
@@ -96,17 +100,18 @@ fn write_filled(
     new_ends: &mut [u32],
     new_blocks: &mut [u32],
     new_adjustments: &mut [u32],
-)
+) -> usize
     requires { ⌜
         Some
         (FillsInto (now «new_ends») (now «new_blocks») (now «new_adjustments»)
         h (now ends) (now blocks) (now adjustments) (now olds) (now dues) count)
         ⌝ }
-    ensures { λ _. ⌜ ((tops : List ℕ) (s : Shape)
+    ensures { λ r. ⌜ ((tops : List ℕ) (s : Shape)
         → Fills h (arrays tops (now (ends .entry)) (now (blocks .entry)) (now (adjustments .entry))) s
         (now (olds .entry)) (now (dues .entry))
         → count ≡ length (newTops (tableWith h tops ends blocks adjustments) s)
-        → Stored 0 (filled (tableWith h tops ends blocks adjustments) s)
+        → (r ≡ length (filled (tableWith h tops ends blocks adjustments) s))
+        × Stored 0 (filled (tableWith h tops ends blocks adjustments) s)
         (now («new_ends» .entry)) (now («new_blocks» .entry)) (now («new_adjustments» .entry))
         (now («new_ends» .exit)) (now («new_blocks» .exit)) (now («new_adjustments» .exit))) ⌝ }
 {
@@ -141,7 +146,7 @@ fn write_filled(
         new_ends,
         new_blocks,
         new_adjustments,
-    );
+    )
 }
 
 // The new tops: the `old` ones, and the new block's if there are more blocks after the growth.
@@ -156,7 +161,7 @@ fn write_tops(tops: &[u32], old: u32, count: u32, bins: u32, new_tops: &mut [u32
     }
 }
 
-// The new intervals, by the case: `falls` says that some old block is due less.
+// The new intervals, by the case: `falls` says that some old block is due less. How many they are, and the buckets that move.
 fn write_intervals(
     h: Header,
     ends: &[u32],
@@ -170,21 +175,22 @@ fn write_intervals(
     new_ends: &mut [u32],
     new_blocks: &mut [u32],
     new_adjustments: &mut [u32],
-)
+) -> Growth
     requires { ⌜
         Some
         (GrowsInto (now «new_ends») (now «new_blocks») (now «new_adjustments»)
         h (now ends) (now blocks) (now adjustments) buckets (now olds) (now dues) falls count)
         ⌝ }
-    ensures { λ _. ⌜ ((tops : List ℕ) (bins : ℕ)
+    ensures { λ r. ⌜ ((tops : List ℕ) (bins : ℕ)
         → Grows h (now (ends .entry)) (now (blocks .entry)) (now (adjustments .entry))
         buckets (now (olds .entry)) (now (dues .entry)) falls count tops bins
-        → Stored 0 (expanded (tableWith h tops ends blocks adjustments) (sizes buckets bins) .intervals)
+        → Counted (tableWith h tops ends blocks adjustments) (sizes buckets bins) r
+        × Stored 0 (expanded (tableWith h tops ends blocks adjustments) (sizes buckets bins) .intervals)
         (now («new_ends» .entry)) (now («new_blocks» .entry)) (now («new_adjustments» .entry))
         (now («new_ends» .exit)) (now («new_blocks» .exit)) (now («new_adjustments» .exit))) ⌝ }
 {
     if falls {
-        write_drained(
+        return write_drained(
             h,
             ends,
             blocks,
@@ -195,9 +201,8 @@ fn write_intervals(
             new_blocks,
             new_adjustments,
         );
-        return;
     }
-    write_filled(
+    let intervals = write_filled(
         h,
         ends,
         blocks,
@@ -209,10 +214,15 @@ fn write_intervals(
         new_blocks,
         new_adjustments,
     );
+    Growth {
+        intervals: intervals as u32,
+        moved: 0,
+    }
 }
 
 // The growth's table, into arrays with room for it. `olds` and `dues` are what each block has, and is due after the growth;
-// `falls` says that some old block is due less, and `count` is the number of blocks after it.
+// `falls` says that some old block is due less, and `count` is the number of blocks after it. The intervals written, and the buckets
+// that move.
 pub fn write_expanded(
     h: Header,
     tops: &[u32],
@@ -229,11 +239,12 @@ pub fn write_expanded(
     new_ends: &mut [u32],
     new_blocks: &mut [u32],
     new_adjustments: &mut [u32],
-)
+) -> Growth
     requires { ⌜ Grows h (now ends) (now blocks) (now adjustments) buckets (now olds) (now dues) falls count (now tops) bins ⌝ }
     requires { ⌜ roomShort (arraysNow «new_tops» «new_ends» «new_blocks» «new_adjustments») ≡ false ⌝ }
     requires { ⌜ length (expanded (tableNow h tops ends blocks adjustments) (sizes buckets bins) .intervals) ≤ maxIntervals ⌝ }
-    ensures { λ _.
+    ensures counted { λ r. ⌜ Counted (tableGiven h tops ends blocks adjustments) (sizes buckets bins) r ⌝ }
+    ensures written { λ _.
         ⌜
         left «new_tops» «new_ends» «new_blocks» «new_adjustments» ≡ written
         (expanded (tableGiven h tops ends blocks adjustments) (sizes buckets bins))
@@ -254,5 +265,5 @@ pub fn write_expanded(
         new_ends,
         new_blocks,
         new_adjustments,
-    );
+    )
 }

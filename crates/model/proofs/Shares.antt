@@ -2,7 +2,7 @@
 use Prim.Native.Nat.{ℕ, _+_, _/_, _≤_, _<_}
 use mathlib.Core.Path.{_≡_, sym, _∙_, ap}
 use mathlib.Core.Logic.{⊎-elim}
-use mathlib.Core.Bool.{true, false, not}
+use mathlib.Core.Bool.{false}
 use mathlib.Core.List.{List}
 use native.Mathlib.Nat.{mul-le-mul-right, div-add-mod, le-of-lt}
 use native.Mathlib.Decide.{ℕ-discrete}
@@ -19,7 +19,7 @@ use lib.ListN.{
   List·getD-eq-default,
 }
 use lib.Seq.{length-take-le, getD-take, getD-set-same, getD-set-other}
-use borrow.Author.Tests.{le-leb, lt-leb}
+use borrow.Author.Tests.{le-leb}
 use Rattle.model.specs.Basics.{sum, before}
 use Rattle.model.specs.Limits.{maxBlocks}
 use Rattle.model.specs.Table.{Shape, Table, bins, shape, firstBin, blockBins}
@@ -29,7 +29,6 @@ use Rattle.model.specs.Balance.{dueBelow}
 use Rattle.model.proofs.Counts.{below-or}
 use Rattle.model.proofs.Dues.{dues-below, dues-sum, block-closed}
 use Rattle.model.proofs.Intervals.{before-mono}
-use Rattle.model.proofs.Rules.{all-fails}
 use Rattle.model.proofs.Soundness.{not-all}
 use Rattle.model.proofs.Wells.{due-same, Well}
 use Rattle.model.proofs.Growths.{
@@ -186,10 +185,6 @@ module _ (t : Table) (s : Shape) where
         (below-or j g)
 
   -- WHETHER SOME BLOCK FALLS
-
-  pub fall-here : (j : ℕ) → j < length (t .tops) → dueAfter t s j < has t j → someFall t s ≡ true
-  unfolding someFall
-  fall-here j l b = ap not (all-fails _ (length (t .tops)) j l (lt-leb (has t j) (dueAfter t s j) b))
 
   pub fall-none : ((j : ℕ) → j < length (t .tops) → has t j ≤ dueAfter t s j) → someFall t s ≡ false
   unfolding someFall

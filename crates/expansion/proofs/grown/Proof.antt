@@ -4,7 +4,8 @@ use Rattle.model.specs.Lent.{lent}
 use Rattle.model.specs.Table.{sizes}
 use Rattle.model.specs.Refusal.{first}
 use Rattle.model.specs.Calls.{growthTests}
-use Rattle.model.proofs.Wells.{lent-tops, tops-length}
+use Rattle.model.proofs.Wells.{lent-tops}
+use Rattle.expansion_plan.specs.Shares.{TopsAsked}
 use Rattle.expansion.proofs.Grows.{grow-same, grow-refused}
 use borrow.Author.Needs.{needs}
 use Rattle.expansion.proofs.grown.Statement.{statement}
@@ -22,6 +23,9 @@ asked : (c : tie.Else1) → let s = start c in
     ≡ 0
 asked c = sym (c .before .growth-refusal .ensures _ _ _) ∙ c .if1 .left
 
+tops-asked : (c : tie.Else1) → let s = start c in TopsAsked (s .args .header) (s .args .tops .now) (sizes (s .args .buckets) (s .args .bins))
+tops-asked c = record { whole = lent-tops _ _ (start c .pre .0); asked = asked c }
+
 growth-refusal-requires : tie.Need-growth-refusal-requires
 growth-refusal-requires c κs = search needs
 
@@ -37,32 +41,28 @@ dues-before-requires : tie.Need-dues-before-requires
 dues-before-requires c κs = search needs
 
 dues-after-requires : tie.Need-dues-after-requires
-dues-after-requires c κs =
-    let accepted = c .before .before .before in
-    (record { whole = lent-tops _ _ (start accepted .pre .0); asked = asked accepted }, refl)
+dues-after-requires c κs = (tops-asked (c .before .before .before), refl)
 
 some-fall-requires : tie.Need-some-fall-requires
-some-fall-requires c κs = search needs
+some-fall-requires c κs = tops-asked (c .before .before .before .before)
 
 blocks-after-requires : tie.Need-blocks-after-requires
 blocks-after-requires c κs = search needs
 
 accepted-requires : tie.Need-accepted-requires
 accepted-requires c κs =
-    let counting = c .before .before .before .before .before .before in
+    let counting = c .before .before .before .before .before .before .before in
     let falling = counting .before in
-    let shared = falling .before .before .before in
+    let shared = falling .before in
     let held = shared .before .before in
     let accepted = held .before .before in
-    let (sound, room) = start accepted .pre in
-    let before = held .dues-before .ensures _ _ _ sound in
-    let after = shared .dues-after .ensures _ _ _ in (
+    let (sound, room) = start accepted .pre in (
       record {
         sound = sound;
         asked = asked accepted;
-        before = before;
-        after = after;
-        falling = falling .some-fall .ensures _ _ (tops-length _ _ sound) before after;
+        before = held .dues-before .ensures _ _ _ sound;
+        after = shared .dues-after .ensures _ _ _;
+        falling = falling .some-fall .ensures _ _ _ sound;
         counted = counting .blocks-after .ensures _ _ _ _ refl;
       },
       room,

@@ -85,8 +85,7 @@ loop-again c =
 returns : tie.Need-returns Inv-loop μ-loop
 returns c tops bins d =
     let turn = c .before .before .loop in
-    let (intervals, moved) = making-end _ _ (sizes _ bins) (d .sound) _ (turn .i) _ _ (turn .inv .2 tops bins d) (omega arith) in
-    record { intervals = intervals; moved = moved }
+    making-end _ _ (sizes _ bins) (d .sound) _ (turn .i) _ _ (turn .inv .2 tops bins d) (omega arith)
 
 pub count-drained-spec : {M : Type 1} → statement M
 count-drained-spec =

@@ -4,8 +4,7 @@ use native.Mathlib.Omega.{arith}
 use Rattle.model.specs.Table.{sizes}
 use Rattle.model.specs.Expansion.{lengthTo}
 use Rattle.model.specs.Lent.{lent}
-use Rattle.model.proofs.Kept.{moved-is-least}
-use Rattle.model.proofs.Steps.{drained-count, drained-moves, filled-count, filled-moves}
+use Rattle.model.proofs.Steps.{drained-count, filled-count}
 use Rattle.expansion_count.proofs.Pieces.{grows-drains, grows-fills, blocks-few, fills-rise, fills-shares}
 use borrow.Author.Needs.{needs}
 use Rattle.expansion_count.proofs.measure.Statement.{statement}
@@ -18,14 +17,8 @@ count-drained-requires c κs =
 
 returns : tie.Need-returns
 returns c tops bins g =
-    let falls = sym (g .falling) ∙ c .before .if1 .taken in
-    let counted = c .count-drained .ensures tops bins (grows-drains g) in
-    let moves = counted .moved ∙ drained-moves _ _ _ (g .sound) (g .asked) falls in
-    record {
-      intervals = counted .intervals ∙ sym (drained-count _ _ _ (g .sound) (g .asked) falls);
-      moved = moves;
-      least = moves ∙ moved-is-least _ _ _ (g .sound) (g .asked) .0;
-    }
+    c .count-drained .ensures tops bins (grows-drains g)
+    ∙ sym (drained-count _ _ _ (g .sound) (g .asked) (sym (g .falling) ∙ c .before .if1 .taken))
 
 cast-last : tie.Need-cast-last
 cast-last c = search needs
@@ -45,8 +38,8 @@ count-pieces-requires c κs =
     let fills = grows-fills given (c .before .before .if1 .left) in
     (blocks-few _ _ _ _ _ fills _ (given .counted), fills-rise _ _ _ _ _ fills)
 
-add-t17 : tie.Need-add-t17
-add-t17 c = search needs
+add-result : tie.Need-add-result
+add-result c = search needs
 
 returns-2 : tie.Need-returns-2
 returns-2 c tops bins g =
@@ -55,12 +48,7 @@ returns-2 c tops bins g =
     let t = lent (start .args .h) tops (start .args .ends .now) (start .args .blocks .now) (start .args .adjustments .now) in
     let s = sizes (start .args .buckets) bins in
     let pieces = c .before .count-pieces .ensures .1 t s (lengthTo t s) (fills-shares _ _ _ _ _ fills) in
-    let moves = filled-moves _ _ _ (g .sound) (g .asked) (fills .none) in
-    record {
-      intervals = omega (arith, rw (g .counted) at pieces, filled-count _ _ _ (g .sound) (g .asked) (fills .none));
-      moved = moves;
-      least = moves ∙ moved-is-least _ _ _ (g .sound) (g .asked) .0;
-    }
+    omega (arith, rw (g .counted) at pieces, filled-count _ _ _ (g .sound) (g .asked) (fills .none))
 
 pub measure-spec : {M : Type 1} → statement M
 measure-spec =
@@ -73,5 +61,5 @@ measure-spec =
     mul-last
     shared-slice-read-last
     count-pieces-requires
-    add-t17
+    add-result
     returns-2)

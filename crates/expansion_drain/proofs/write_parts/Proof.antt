@@ -62,8 +62,8 @@ write-stay-requires c κs =
 enum-known-action : tie.Need-enum-known-action
 enum-known-action c = search needs
 
-write-interval-requires : tie.Need-write-interval-requires
-write-interval-requires c κs = let arm = c .before .before .before .before in rw (moves arm) at (arm .before .before .before .before .before .pre .1)
+write-moved-requires : tie.Need-write-moved-requires
+write-moved-requires c κs = let arm = c .before .before .before .before in rw (moves arm) at (arm .before .before .before .before .before .pre .1)
 
 add-result : tie.Need-add-result
 add-result c = search needs
@@ -103,7 +103,7 @@ same-length-6 c = search needs
 returns-2 : tie.Need-returns-2
 returns-2 c =
     let stored = c .before .before .before .before .before .before in
-    rw (moves (stored .before .before .before .before .before)) (omega arith, stored .write-interval .ensures)
+    rw (moves (stored .before .before .before .before .before)) (omega arith, stored .write-moved .ensures)
 
 same-length-7 : tie.Need-same-length-7
 same-length-7 c = search needs
@@ -127,7 +127,7 @@ write-parts-spec =
     enum-told
     write-stay-requires
     enum-known-action
-    write-interval-requires
+    write-moved-requires
     add-result
     enum-known-action-2
     write-two-requires

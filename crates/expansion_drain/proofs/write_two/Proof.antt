@@ -8,11 +8,11 @@ use Rattle.expansion_drain.proofs.write_two.Tie as tie
 write-interval-requires : tie.Need-write-interval-requires
 write-interval-requires c κs = search needs
 
-add-write-interval : tie.Need-add-write-interval
-add-write-interval c = search needs
+add-write-moved : tie.Need-add-write-moved
+add-write-moved c = search needs
 
-write-interval-requires-2 : tie.Need-write-interval-requires-2
-write-interval-requires-2 c κs = search needs
+write-moved-requires : tie.Need-write-moved-requires
+write-moved-requires c κs = search needs
 
 same-length : tie.Need-same-length
 same-length c = search needs
@@ -27,15 +27,15 @@ returns : tie.Need-returns
 returns c =
     let second = c .before .before .before .before .before .before in
     let first = second .before .before .before .before .before .before .before .before .before .before in
-    stored-more _ refl (first .write-interval .ensures) (second .write-interval2 .ensures)
+    stored-more _ refl (first .write-interval .ensures) (second .write-moved .ensures)
 
 pub write-two-spec : {M : Type 1} → statement M
 write-two-spec =
     tie.close
     (tie.spec
     write-interval-requires
-    add-write-interval
-    write-interval-requires-2
+    add-write-moved
+    write-moved-requires
     same-length
     same-length-2
     same-length-3

@@ -75,10 +75,13 @@ returns c =
     let tops = c .before .before .before .before .before .before .before .before .before .before .before .before in
     let start = tops .before .before .before .before .before .before .before .before .before .before in
     let grows = start .pre .0 in
-    stored-written (expanded (t start) (z start)) (start .args .new-tops .now) _
-    (tops .write-tops .ensures (t start) (z start) refl refl (grows .counted))
-    (c .before .before .before .before .before .before .write-intervals .ensures _ _ grows)
-    (room start)
+    let (counted, stored) = c .before .before .before .before .before .before .write-intervals .ensures _ _ grows in (
+      counted,
+      stored-written (expanded (t start) (z start)) (start .args .new-tops .now) _
+          (tops .write-tops .ensures (t start) (z start) refl refl (grows .counted))
+          stored
+          (room start),
+    )
 
 pub write-expanded-spec : {M : Type 1} → statement M
 write-expanded-spec =

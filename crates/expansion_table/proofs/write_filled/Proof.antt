@@ -10,7 +10,7 @@ use Rattle.model.proofs.Steps.{filled-length}
 use Rattle.expansion_drain.specs.Stored.{Room}
 use Rattle.expansion_count.proofs.Pieces.{gain-from, fills-shares}
 use Rattle.expansion_drain.proofs.Stores.{room-less, stored-room}
-use Rattle.expansion_table.proofs.Filling.{block-few, end-filled, end-most, old-stored, pieces-into, filled-stored}
+use Rattle.expansion_table.proofs.Filling.{block-few, end-filled, end-most, old-stored, pieces-into, filled-pieces, filled-stored}
 use borrow.Author.Needs.{needs}
 use Rattle.expansion_table.proofs.write_filled.Statement.{statement}
 use Rattle.expansion_table.proofs.write_filled.Tie as tie
@@ -147,10 +147,13 @@ returns c tops s fills counted =
     let longer = pieced .before .before .before .before .before .before .before .before .before .before .before in
     let copied = longer .before .before .before .before .before .before .before .before .before .before .before in
     let start = copied .before .before .before .before .before .before .before .before .before .before .before .before .before .before .before in
-    filled-stored _ _ _ _ _ fills (end start) _ (end-filled _ _ _ _ _ fills) counted
-    (old-stored _ _ _ _ _ fills (olds-room start) (copied .copy-intervals .ensures))
-    (longer .write-interval .ensures)
-    (pieced .write-pieces .ensures _ s (fills-shares _ _ _ _ _ fills))
+    let pieces = pieced .write-pieces .ensures _ s (fills-shares _ _ _ _ _ fills) in (
+      omega (arith, pieces .0, filled-pieces _ _ _ _ _ fills (end start) _ (end-filled _ _ _ _ _ fills) counted),
+      filled-stored _ _ _ _ _ fills (end start) _ (end-filled _ _ _ _ _ fills) counted
+          (old-stored _ _ _ _ _ fills (olds-room start) (copied .copy-intervals .ensures))
+          (longer .write-interval .ensures)
+          (pieces .1),
+    )
 
 pub write-filled-spec : {M : Type 1} → statement M
 write-filled-spec =

@@ -1,10 +1,13 @@
 -- `expansion_table::write_intervals` meets its contract: one return for each case. Assumes nothing.
-use mathlib.Core.Path.{sym, _∙_}
+use mathlib.Core.Path.{sym, _∙_, ap}
 use native.Mathlib.Omega.{arith}
-use Rattle.model.specs.Table.{sizes}
+use lib.ListN.{length}
+use Rattle.model.specs.Table.{Table, sizes}
 use Rattle.model.proofs.Expanded.{expanded-drained, expanded-filled}
-use Rattle.model.proofs.Steps.{drained-count}
-use Rattle.expansion_count.proofs.Pieces.{grows-drains, grows-fills}
+use Rattle.model.proofs.Steps.{drained-count, drained-moves, filled-moves}
+use Rattle.model.proofs.Kept.{moved-is-least}
+use Rattle.expansion_count.proofs.Bounds.{filled-most}
+use Rattle.expansion_count.proofs.Pieces.{grows-drains, grows-fills, blocks-few}
 use borrow.Author.Needs.{needs}
 use Rattle.expansion_table.proofs.write_intervals.Statement.{statement}
 use Rattle.expansion_table.proofs.write_intervals.Tie as tie
@@ -34,8 +37,16 @@ same-length-3 c = search needs
 
 returns : tie.Need-returns
 returns c tops bins g =
-    rw (expanded-drained _ (sizes _ bins) (sym (g .falling) ∙ c .before .before .before .before .before .before .before .before .before .before .if1 .taken))
-    (c .before .before .before .before .before .before .write-drained .ensures tops bins (grows-drains g))
+    let falls = sym (g .falling) ∙ c .before .before .before .before .before .before .before .before .before .before .if1 .taken in
+    let (counted, stored) = c .before .before .before .before .before .before .write-drained .ensures tops bins (grows-drains g) in
+    let moves = counted .moved ∙ drained-moves _ _ _ (g .sound) (g .asked) falls in (
+      record {
+        intervals = counted .intervals ∙ sym (drained-count _ _ _ (g .sound) (g .asked) falls);
+        moved = moves;
+        least = moves ∙ moved-is-least _ _ _ (g .sound) (g .asked) .0;
+      },
+      rw (expanded-drained _ (sizes _ bins) falls) stored,
+    )
 
 write-filled-requires : tie.Need-write-filled-requires
 write-filled-requires c κs =
@@ -53,6 +64,22 @@ write-filled-requires c κs =
       };
     }
 
+cast-t27 : tie.Need-cast-t27
+cast-t27 c =
+    let written = c .before .before .before .before .before .before in
+    let start = written .before .before .before .before .before .before .before .before .before .before .before in
+    let g = start .pre .holds .grows in
+    let fills = grows-fills g (written .before .before .before .before .if1 .left) in
+    let s = sizes (start .args .buckets) (start .pre .other) in
+    omega (
+      arith,
+      written .write-filled .ensures _ s fills (g .counted) .0,
+      filled-most _ _ s (g .sound),
+      g .counted,
+      blocks-few _ _ _ _ _ fills _ (g .counted),
+      g .sound .intervalLimit,
+    )
+
 same-length-4 : tie.Need-same-length-4
 same-length-4 c = search needs
 
@@ -64,8 +91,18 @@ same-length-6 c = search needs
 
 returns-2 : tie.Need-returns-2
 returns-2 c tops bins g =
-    let fills = grows-fills g (c .before .before .before .before .before .before .before .before .before .before .if1 .left) in
-    rw (expanded-filled _ (sizes _ bins) (fills .none)) (c .before .before .before .before .before .before .write-filled .ensures tops _ fills (g .counted))
+    let written = c .before .before .before .before .before .before in
+    let fills = grows-fills g (written .before .before .before .before .if1 .left) in
+    let (place, stored) = written .write-filled .ensures tops _ fills (g .counted) in
+    let same = expanded-filled _ (sizes _ bins) (fills .none) in
+    let moves = filled-moves _ _ _ (g .sound) (g .asked) (fills .none) in (
+      record {
+        intervals = place ∙ ap (λ (u : Table). length (u .intervals)) (sym same);
+        moved = moves;
+        least = moves ∙ moved-is-least _ _ _ (g .sound) (g .asked) .0;
+      },
+      rw same stored,
+    )
 
 pub write-intervals-spec : {M : Type 1} → statement M
 write-intervals-spec =
@@ -77,6 +114,7 @@ write-intervals-spec =
     same-length-3
     returns
     write-filled-requires
+    cast-t27
     same-length-4
     same-length-5
     same-length-6

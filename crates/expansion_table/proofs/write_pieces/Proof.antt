@@ -5,7 +5,7 @@ use mathlib.Core.Path.{_≡_, refl, sym, _∙_, ap}
 use mathlib.Core.List.{[], _∷_, _++_}
 use native.Mathlib.Nat.{sub-zero}
 use native.Mathlib.Omega.{arith}
-use lib.ListN.{getD}
+use lib.ListN.{length, getD}
 use Rattle.model.specs.Limits.{maxBlocks}
 use Rattle.model.specs.Table.{Shape, Table, interval}
 use Rattle.model.specs.Expansion.{has, pieces}
@@ -13,7 +13,7 @@ use Rattle.expansion_count.specs.Given.{Shares}
 use Rattle.expansion_count.proofs.Pieces.{pieces-skip, pieces-take}
 use Rattle.expansion_count.proofs.Parts.{Front}
 use Rattle.expansion_drain.specs.Stored.{Stored}
-use Rattle.expansion_drain.proofs.Stores.{Writing, writing-start, writing-part, writing-more, writing-end, stored-same}
+use Rattle.expansion_drain.proofs.Stores.{Writing, writing-start, writing-part, writing-more, writing-end, writing-all, stored-same}
 use Rattle.expansion_table.proofs.write_pieces.Statement.{statement}
 use Rattle.expansion_table.proofs.write_pieces.Tie as tie
 
@@ -146,23 +146,25 @@ start c = c .before .before .before .before .before
 all-stored
     : (c : tie.After-loop Inv-loop μ-loop) (t : Table) (s : Shape)
     → Shares t s (start c .args .last) (start c .args .olds .now) (start c .args .dues .now)
-    → Stored (start c .args .place) (pieces t s (start c .args .start) 0 (start c .args .count))
+    → (c .before .loop .o ≡ start c .args .place + length (pieces t s (start c .args .start) 0 (start c .args .count)))
+    × Stored (start c .args .place) (pieces t s (start c .args .start) 0 (start c .args .count))
     (start c .args .new-ends .now) (start c .args .new-blocks .now) (start c .args .new-adjustments .now)
     (c .before .loop .new-ends) (c .before .loop .new-blocks) (c .before .loop .new-adjustments)
 unfolding pieces
 all-stored c t s shares =
     let turn = c .before .loop in
     let none : start c .args .count - turn .j ≡ 0 = omega arith in
-    writing-end (turn .inv .2 t s shares) (ap (pieces t s (turn .at) (turn .j)) none)
+    let left = ap (pieces t s (turn .at) (turn .j)) none in
+    (writing-all (turn .inv .2 t s shares) left, writing-end (turn .inv .2 t s shares) left)
 
 same-length : tie.Need-same-length Inv-loop μ-loop
-same-length c = stored-same (all-stored c _ _ (start c .pre .holds .shares)) .0
+same-length c = stored-same (all-stored c _ _ (start c .pre .holds .shares) .1) .0
 
 same-length-2 : tie.Need-same-length-2 Inv-loop μ-loop
-same-length-2 c = stored-same (all-stored c _ _ (start c .pre .holds .shares)) .1
+same-length-2 c = stored-same (all-stored c _ _ (start c .pre .holds .shares) .1) .1
 
 same-length-3 : tie.Need-same-length-3 Inv-loop μ-loop
-same-length-3 c = stored-same (all-stored c _ _ (start c .pre .holds .shares)) .2
+same-length-3 c = stored-same (all-stored c _ _ (start c .pre .holds .shares) .1) .2
 
 returns : tie.Need-returns Inv-loop μ-loop
 returns c = all-stored c
