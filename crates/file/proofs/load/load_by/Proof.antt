@@ -13,17 +13,19 @@ cast-g c = search needs
 cast-k : tie.Need-cast-k
 cast-k c = search needs
 
+-- the function's entry, from after the first part
+abbrev entry : tie.After-settle-arg → tie.Start
+entry c = c .before .before .before .before .before .before .before .before .before .before .before
+
 slice-aggregate-settle : tie.Need-slice-aggregate-settle
-slice-aggregate-settle c =
-    let start = c .before .before .before .before .before .before .before .before .before .before .before in sym (ap length (start .pre .1 .topsRead) ∙ length-from _ _ _)
+slice-aggregate-settle c = sym (ap length (entry c .pre .1 .topsRead) ∙ length-from _ _ _)
 
 slice-aggregate-settle-2 : tie.Need-slice-aggregate-settle-2
-slice-aggregate-settle-2 c =
-    let start = c .before .before .before .before .before .before .before .before .before .before .before .before in sym (ap length (start .pre .1 .endsRead) ∙ length-from _ _ _)
+slice-aggregate-settle-2 c = sym (ap length (entry (c .before) .pre .1 .endsRead) ∙ length-from _ _ _)
 
 slice-relend-prefix-settle : tie.Need-slice-relend-prefix-settle
 slice-relend-prefix-settle c =
-    let start = c .before .before .before .before .before .before .before .before .before .before .before .before in
+    let start = entry (c .before) in
     omega (
       arith,
       length-take (start .args .h .«interval_count») (start .args .own-blocks .now),
@@ -31,12 +33,11 @@ slice-relend-prefix-settle c =
     )
 
 slice-aggregate-settle-3 : tie.Need-slice-aggregate-settle-3
-slice-aggregate-settle-3 c =
-    let start = c .before .before .before .before .before .before .before .before .before .before .before .before .before in sym (ap length (start .pre .1 .blocksRead) ∙ length-from _ _ _)
+slice-aggregate-settle-3 c = sym (ap length (entry (c .before .before) .pre .1 .blocksRead) ∙ length-from _ _ _)
 
 settle-requires : tie.Need-settle-requires
 settle-requires c κs =
-    let start = c .before .before .before .before .before .before .before .before .before .before .before .before .before .before .before .before .before in
+    let start = entry (c .before .before .before .before .before .before) in
     let own = start .pre .1 in (start .pre .0, (own .topsRead, own .endsRead, own .blocksRead))
 
 same-length : tie.Need-same-length

@@ -78,10 +78,12 @@ returns c =
     put-more s3 {o′ = 12 + 4 * h .«block_count»} (bytesOfAll (take (h .«block_count») (a .tops))) (c4 .put-each .ensures)
     (omega (arith, bytes-length (a .tops) (h .«block_count») (start .pre .0))) in
     let s5 =
-    put-more s4 {o′ = 12 + 4 * h .«block_count» + 4 * h .«interval_count»} (bytesOfAll (take (h .«interval_count») (a .ends))) (c5 .put-numbers .ensures)
+    put-more s4 {o′ = 12 + 4 * h .«block_count» + 4 * h .«interval_count»} (bytesOfAll (take (h .«interval_count») (a .ends)))
+    (c5 .put-numbers .ensures)
     (omega (arith, bytes-length (a .ends) (h .«interval_count») (start .pre .1))) in
     let s6 =
-    put-more s5 {o′ = 12 + 4 * h .«block_count» + 8 * h .«interval_count»} (bytesOfAll (take (h .«interval_count») (a .blocks))) (c6 .put-numbers2 .ensures)
+    put-more s5 {o′ = 12 + 4 * h .«block_count» + 8 * h .«interval_count»} (bytesOfAll (take (h .«interval_count») (a .blocks)))
+    (c6 .put-numbers2 .ensures)
     (omega (arith, bytes-length (a .blocks) (h .«interval_count») (start .pre .2))) in
     put-over s6 room
     ∙ ap (λ w. over w old)
