@@ -307,7 +307,7 @@ pub fn check(h: Header, tops: &[u32], ends: &[u32], blocks: &[u32], adjustments:
 }
 
 // Writes each interval's adjustment over its block: its start less what its block holds before it. `sums` is then what each
-// block holds.
+// block holds. Two intervals a turn, so that adjustments are stored in pairs.
 fn adjust(h: Header, ends: &[u32], blocks: &mut [u32], sums: &mut [u32; BLOCKS])
     requires { ⌜ (IntervalsRight h (now ends) (now blocks)) × (now sums ≡ replicate maxBlocks 0) ⌝ }
     ensures { λ _. ⌜ (Held h (now (ends .entry)) (now (blocks .entry)) (now (sums .exit)))
@@ -317,15 +317,28 @@ fn adjust(h: Header, ends: &[u32], blocks: &mut [u32], sums: &mut [u32; BLOCKS])
 {
     let mut start: u32 = 0;
     let mut i: usize = 0;
-    while i < h.interval_count as usize {
-        let end = ends[i];
+    while i + 1 < h.interval_count as usize {
+        let middle = ends[i];
+        let end = ends[i + 1];
         let block = blocks[i] as usize;
+        let other = blocks[i + 1] as usize;
         let adjustment = start - sums[block];
+        sums[block] = middle - adjustment;
+        let next = middle - sums[other];
+        sums[other] = end - next;
         blocks[i] = adjustment;
-        sums[block] = end - adjustment;
+        blocks[i + 1] = next;
         start = end;
-        i += 1;
+        i += 2;
     }
+    if i == h.interval_count as usize {
+        return;
+    }
+    let end = ends[i];
+    let block = blocks[i] as usize;
+    let adjustment = start - sums[block];
+    sums[block] = end - adjustment;
+    blocks[i] = adjustment;
 }
 
 // The number of the first of rules 12 to 15 that arrays without adjustments break, or 0. Where it is 0, the adjustments are
