@@ -1,4 +1,4 @@
--- What rules 11 to 14 show of one turn of the walks of rules 15 and 16. Assumes nothing.
+-- What rules 11 to 14 show of one turn of the walks of rules 15 and 16, and of working out the adjustments. Assumes nothing.
 use Prim.Native.Nat.{ℕ, _+_, _-_, _≤_, _<_}
 use mathlib.Core.Path.{_≡_, refl, sym, _∙_, ap}
 use mathlib.Core.List.{List, []}
@@ -89,7 +89,9 @@ module _
         ∙ ap (λ k. getD blocks k 0) (sym at)
 
     -- at interval i, whose block is b
-    pub adjusted-turn : (b : ℕ) → b ≡ getD blocks i 0 → i < h .«interval_count» → (b < maxBlocks) × (start < getD ends i 0) × (getD sums b 0 ≤ start)
+    pub adjusted-turn
+        : (b : ℕ) → b ≡ getD blocks i 0 → i < h .«interval_count»
+        → (b < maxBlocks) × (start < getD ends i 0) × (getD sums b 0 ≤ start)
     adjusted-turn b o l =
         let t = turn h [] ends blocks [] p i start sums (s .held) l in (rw o (t .block), t .later, rw o (t .within))
 
