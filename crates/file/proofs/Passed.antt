@@ -3,7 +3,6 @@ use Prim.Native.Nat.{ℕ, _≤_}
 use mathlib.Core.Path.{_≡_, refl, sym, _∙_, ap, ap₂, subst}
 use mathlib.Core.Bool.{true, false, not}
 use mathlib.Core.List.{List, [], _∷_, _++_}
-use native.Mathlib.Decide.{ℕ-discrete}
 use native.Mathlib.Omega.{arith}
 use lib.Dec.{eqb}
 use lib.ListN.{length, take, drop}
@@ -22,7 +21,7 @@ use Rattle.model.proofs.Tables.{length-from, length-over}
 use Rattle.model.proofs.Rules.{blocks-inside, intervals-inside}
 use Rattle.model.proofs.Holdings.{adjustment-same, holdings-same}
 use Rattle.model.proofs.Loads.{written-whole}
-use Rattle.file.specs.Loading.{fileArrays, Counted, Opened, Decoded, outOver, Settled, loadedOver, Loaded}
+use Rattle.file.specs.Loading.{fileArrays, Counted, Opened, Decoded, outOver, loadedOver, Loaded}
 use Rattle.soundness.specs.Passed.{Counted as Rule11, layoutTests, arrayTests, ruleTests, alone, Completed}
 
 module _ (f : List ℕ) (h : Header) (e : h ≡ loadedHeader f) where
@@ -92,9 +91,6 @@ pub taken : (xs old new : List ℕ) (n : ℕ) → new ≡ over xs old → length
 unfolding over
 taken xs old new n e l = ap (take n) e ∙ take-at xs (drop (length xs) old) n l
 
-pub taken-length : (xs old new : List ℕ) (n : ℕ) → new ≡ over xs old → length xs ≡ n → n ≡ length (take n new)
-taken-length xs old new n e l = sym (ap length (taken xs old new n e l) ∙ l)
-
 -- of as many entries, all of it
 pub filled : (xs old new : List ℕ) → new ≡ over xs old → length xs ≡ length old → new ≡ xs
 filled xs old new e l =
@@ -104,41 +100,87 @@ filled xs old new e l =
 pub over-long : (xs old new : List ℕ) (n : ℕ) → new ≡ over xs old → length xs ≡ n → n ≤ length old → n ≤ length new
 over-long xs old new n e l m = omega (arith, ap length e, length-over xs old (omega arith))
 
-module _ (h : Header) (tops ends blocks : List ℕ) (d : Decoded h tops ends blocks) where
-  pub decoded-counted : Rule11 h tops ends blocks
-  decoded-counted =
-      record {
-        someBlocks = d .someBlocks;
-        blockLimit = d .blockLimit;
-        someIntervals = d .someIntervals;
-        topsLong = omega (arith, d .topsLength);
-        endsLong = omega (arith, d .endsLength);
-        blocksLong = omega (arith, d .blocksLength);
-      }
+-- what a file's numbers stand over
+pub decoded
+    : (f : List ℕ) (h : Header) (t₀ e₀ b₀ t e b : List ℕ)
+    → t ≡ over (fileArrays f h .tops) t₀ → e ≡ over (fileArrays f h .ends) e₀ → b ≡ over (fileArrays f h .blocks) b₀
+    → Decoded f h t e b
+decoded f h t₀ e₀ b₀ t e b p q s =
+    record {
+      topsRead = taken _ t₀ t _ p (length-from _ _ _);
+      endsRead = taken _ e₀ e _ q (length-from _ _ _);
+      blocksRead = taken _ b₀ b _ s (length-from _ _ _);
+    }
 
-  module _ (own own′ : List ℕ) (r : ℕ) (c : Completed h tops ends blocks own r own′) (old : Arrays) where
-    pub settled-refused : (r ≡ 0 → ⊥) → Settled h tops ends blocks old r old
-    settled-refused n =
-        record { refusal = c .answer; refused = λ m. refl; accepted = λ z. absurd (n z) }
+-- ARRAYS THAT HOLD WHAT A FILE'S DO
 
-    pub completed-long : r ≡ 0 → h .«interval_count» ≤ length own → h .«interval_count» ≤ length own′
-    completed-long z l = over-long _ own own′ _ (c .adjusted z) (length-from _ _ _) l
+module _
+    (f : List ℕ) (h : Header) (out : Arrays) (o : Opened f h out)
+    (t e b : List ℕ) (p : t ≡ fileArrays f h .tops) (q : e ≡ fileArrays f h .ends) (s : b ≡ fileArrays f h .blocks)
+  where
+    -- they are as long as their counts
+    tops-length : length t ≡ h .«block_count»
+    tops-length = ap length p ∙ length-from _ _ _
 
-    pub settled-accepted
-        : r ≡ 0 → (left : Arrays) → left ≡ outOver h (arrays tops ends blocks own′) old → Settled h tops ends blocks old 0 left
-    settled-accepted z left e =
+    ends-length : length e ≡ h .«interval_count»
+    ends-length = ap length q ∙ length-from _ _ _
+
+    blocks-length : length b ≡ h .«interval_count»
+    blocks-length = ap length s ∙ length-from _ _ _
+
+    pub decoded-counted : Rule11 h t e b
+    decoded-counted =
         record {
-          refusal = sym z ∙ c .answer;
-          refused = λ n. absurd (n refl);
-          accepted = λ _.
-              e
-              ∙ (λ i.
-              arrays
-              (over (whole tops _ (d .topsLength) i) (old .tops))
-              (over (whole ends _ (d .endsLength) i) (old .ends))
-              (over (whole blocks _ (d .blocksLength) i) (old .blocks))
-              (over (taken _ own own′ _ (c .adjusted z) (length-from _ _ _) i) (old .adjustments)));
+          someBlocks = o .counted .someBlocks;
+          blockLimit = o .counted .blockLimit;
+          someIntervals = o .counted .someIntervals;
+          topsLong = omega (arith, tops-length);
+          endsLong = omega (arith, ends-length);
+          blocksLong = omega (arith, blocks-length);
         }
+
+    pub decoded-long : (h .«block_count» ≤ length t) × (h .«interval_count» ≤ length e) × (h .«interval_count» ≤ length b)
+    decoded-long = (omega (arith, tops-length), omega (arith, ends-length), omega (arith, blocks-length))
+
+    module _ (own own′ : List ℕ) (r : ℕ) (c : Completed h t e b own r own′) (old : Arrays) where
+      -- the refusal is the file's
+      said : r ≡ first (loadTests f)
+      said =
+          c .answer
+          ∙ (λ i. first (arrayTests h (arrays (p i) (q i) (s i) [])))
+          ∙ sym (later f h (o .says) (o .passes))
+
+      pub loaded-refused : (r ≡ 0 → ⊥) → Loaded f old r old
+      unfolding loadedOver arraysAfter
+      loaded-refused n =
+          record { refusal = said; lent = sym (refused (first (loadTests f)) _ _ (λ z. n (said ∙ z))) }
+
+      -- the adjustments worked out are the file's
+      adjusted : r ≡ 0 → take (h .«interval_count») own′ ≡ from (adjustmentOf h (fileArrays f h)) 0 (h .«interval_count»)
+      adjusted z =
+          taken _ own own′ _ (c .adjusted z) (length-from _ _ _)
+          ∙ (λ i. from (adjustmentOf h (arrays [] (q i) (s i) [])) 0 (h .«interval_count»))
+          ∙ (λ i.
+          from (λ k. adjustment-same h (fileArrays f h .ends) (fileArrays f h .blocks) [] (fileArrays f h .tops) [] [] k i) 0
+          (h .«interval_count»))
+
+      pub completed-long : r ≡ 0 → h .«interval_count» ≤ length own → h .«interval_count» ≤ length own′
+      completed-long z l = over-long _ own own′ _ (c .adjusted z) (length-from _ _ _) l
+
+      pub loaded-accepted : r ≡ 0 → (left : Arrays) → left ≡ outOver f h t e own′ old → Loaded f old 0 left
+      unfolding loadedOver arraysAfter
+      loaded-accepted z left d =
+          record {
+            refusal = sym z ∙ said;
+            lent =
+                d
+                ∙ loaded-written f h (o .says) old _ _ _ _
+                (ap (λ xs. over xs (old .tops)) (whole t _ tops-length ∙ p))
+                (ap (λ xs. over xs (old .ends)) (whole e _ ends-length ∙ q))
+                refl
+                (ap (λ xs. over xs (old .adjustments)) (adjusted z))
+                ∙ sym (accepted (first (loadTests f)) _ _ (sym said ∙ z));
+          }
 
 -- ONE BLOCK AND ONE INTERVAL
 
@@ -164,47 +206,6 @@ alone-completed b tops ends blocks x r z e =
           ++ ((15, holdings-same (alone b) ends blocks tops (x ∷ []) [] i) ∷ (16, right i) ∷ [])));
       adjusted = λ _. ap (λ y. y ∷ []) (z ∙ sym (first-adjustment (alone b) (arrays [] ends blocks [])));
     }
-
--- a file's decoded arrays settled
-pub settled-loaded
-    : (f : List ℕ) (h : Header) (out : Arrays) → Opened f h out → (old : Arrays) (r : ℕ) (left : Arrays)
-    → Settled h (fileArrays f h .tops) (fileArrays f h .ends) (fileArrays f h .blocks) old r left → Loaded f old r left
-unfolding loadedOver arraysAfter
-settled-loaded f h out o old r left s =
-    let said = s .refusal ∙ sym (later f h (o .says) (o .passes)) in
-    record {
-      refusal = said;
-      lent =
-          elim (ℕ-discrete r 0) [
-            | yes z ↦
-                s .accepted z
-                ∙ loaded-written f h (o .says) old _ _ _ _ refl refl refl
-                (λ i. over (from (λ k. adjustment-same h (fileArrays f h .ends) (fileArrays f h .blocks) [] (fileArrays f h .tops) [] [] k i) 0
-                (h .«interval_count»)) (old .adjustments))
-                ∙ sym (accepted (first (loadTests f)) _ _ (sym said ∙ z))
-            | no n ↦ s .refused n ∙ sym (refused (first (loadTests f)) _ _ (λ z. n (said ∙ z)))
-          ];
-    }
-
--- arrays that hold what a file's do
-module _
-    (f : List ℕ) (h : Header) (out : Arrays) (o : Opened f h out)
-    (t e b : List ℕ) (p : t ≡ fileArrays f h .tops) (q : e ≡ fileArrays f h .ends) (s : b ≡ fileArrays f h .blocks)
-  where
-    pub file-decoded : Decoded h t e b
-    file-decoded =
-        record {
-          someBlocks = o .counted .someBlocks;
-          blockLimit = o .counted .blockLimit;
-          someIntervals = o .counted .someIntervals;
-          intervalLimit = o .counted .intervalLimit;
-          topsLength = ap length p ∙ length-from _ _ _;
-          endsLength = ap length q ∙ length-from _ _ _;
-          blocksLength = ap length s ∙ length-from _ _ _;
-        }
-
-    pub file-loaded : (old : Arrays) (r : ℕ) (left : Arrays) → Settled h t e b old r left → Loaded f old r left
-    file-loaded old r left z = settled-loaded f h out o old r left (rw (← p, ← q, ← s) z)
 
 -- REPLIES
 

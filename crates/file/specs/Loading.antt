@@ -7,11 +7,10 @@ use lib.ListN.{length, take}
 use Rattle.model.specs.Basics.{from}
 use Rattle.model.specs.Limits.{maxBlocks, maxIntervals}
 use Rattle.model.specs.Table.{Arrays, arrays, table, over}
-use Rattle.model.specs.Refusal.{first, adjustmentOf, roomShort}
+use Rattle.model.specs.Refusal.{first, roomShort}
 use Rattle.model.specs.Saved.{number, loadedHeader, loadedArrays, fileWrong}
 use Rattle.model.specs.Calls.{arraysAfter, loadTests}
 use Rattle.model.specs.declared.table.Header.{Header}
-use Rattle.soundness.specs.Passed.{arrayTests}
 
 -- the tops, ends and blocks in a file of header h, after B, G and k; at the header that the file says, its `readArrays`
 abbrev pub fileArrays : List ℕ → Header → Arrays
@@ -37,44 +36,20 @@ pub record Opened (f : List ℕ) (h : Header) (out : Arrays) : Type 0 where
   pub counted : Counted f h
   pub room : roomShort out ≡ false
 
--- arrays of one's own that a file of header h can be decoded into
-pub record Own (h : Header) (own : Arrays) : Type 0 where
-  pub tops : h .«block_count» ≤ length (own .tops)
-  pub ends : h .«interval_count» ≤ length (own .ends)
-  pub blocks : h .«interval_count» ≤ length (own .blocks)
-  pub adjustments : h .«interval_count» ≤ length (own .adjustments)
+-- arrays of one's own whose first entries are the tops, ends and blocks of a file of header h
+pub record Decoded (f : List ℕ) (h : Header) (tops ends blocks : List ℕ) : Type 0 where
+  pub topsRead : take (h .«block_count») tops ≡ fileArrays f h .tops
+  pub endsRead : take (h .«interval_count») ends ≡ fileArrays f h .ends
+  pub blocksRead : take (h .«interval_count») blocks ≡ fileArrays f h .blocks
 
--- decoded arrays: counts within their limits, and arrays of just that length
-pub record Decoded (h : Header) (tops ends blocks : List ℕ) : Type 0 where
-  pub someBlocks : 1 ≤ h .«block_count»
-  pub blockLimit : h .«block_count» ≤ maxBlocks
-  pub someIntervals : 1 ≤ h .«interval_count»
-  pub intervalLimit : h .«interval_count» ≤ maxIntervals
-  pub topsLength : length tops ≡ h .«block_count»
-  pub endsLength : length ends ≡ h .«interval_count»
-  pub blocksLength : length blocks ≡ h .«interval_count»
-
--- the arrays `own`, as far as the table of header h goes, over the first of the arrays `old`
-abbrev pub outOver : Header → Arrays → Arrays → Arrays
-outOver h own old =
+-- tops, ends and adjustments as far as the table of header h goes, and the file's blocks, over the first of the arrays `old`
+abbrev pub outOver : List ℕ → Header → List ℕ → List ℕ → List ℕ → Arrays → Arrays
+outOver f h tops ends adjustments old =
     arrays
-    (over (take (h .«block_count») (own .tops)) (old .tops))
-    (over (take (h .«interval_count») (own .ends)) (old .ends))
-    (over (take (h .«interval_count») (own .blocks)) (old .blocks))
-    (over (take (h .«interval_count») (own .adjustments)) (old .adjustments))
-
--- the refusal r of decoded arrays, and what they leave of the arrays `old`: with their adjustments, where r is 0
-pub record Settled (h : Header) (tops ends blocks : List ℕ) (old : Arrays) (r : ℕ) (left : Arrays) : Type 0 where
-  pub refusal : r ≡ first (arrayTests h (arrays tops ends blocks []))
-  pub refused : (r ≡ 0 → ⊥) → left ≡ old
-  pub accepted
-      : r ≡ 0
-      → left
-      ≡ arrays
-      (over tops (old .tops))
-      (over ends (old .ends))
-      (over blocks (old .blocks))
-      (over (from (adjustmentOf h (arrays [] ends blocks [])) 0 (h .«interval_count»)) (old .adjustments))
+    (over (take (h .«block_count») tops) (old .tops))
+    (over (take (h .«interval_count») ends) (old .ends))
+    (over (fileArrays f h .blocks) (old .blocks))
+    (over (take (h .«interval_count») adjustments) (old .adjustments))
 
 -- what a file leaves of the arrays `old`
 unfoldable pub loadedOver : List ℕ → Arrays → Arrays

@@ -16,12 +16,13 @@ ghost use Prim.Native.Nat.{_+_, _*_, _≤_};
 ghost use lib.ListN.{length};
 ghost use Rattle.model.specs.Lent.{given, left, arraysNow};
 ghost use Rattle.model.specs.Basics.{from};
+ghost use Rattle.model.specs.Limits.{maxIntervals};
 ghost use Rattle.model.specs.Table.{over};
 ghost use Rattle.model.specs.Refusal.{roomShort, first};
 ghost use Rattle.model.specs.Saved.{number, loadedHeader, fileWrong};
 ghost use Rattle.model.specs.Calls.{loadAnswer, loadTests};
 ghost use Rattle.soundness.specs.Passed.{alone};
-ghost use Rattle.file.specs.Loading.{fileArrays, Counted, Opened, Own, Decoded, outOver, Settled, loadedOver, Loaded};
+ghost use Rattle.file.specs.Loading.{fileArrays, Counted, Opened, Decoded, outOver, loadedOver, Loaded};
 
 // 11: B, G or k outside its limits, or a file of another length.
 fn file_wrong(f: &[u8]) -> bool
@@ -37,8 +38,8 @@ fn file_wrong(f: &[u8]) -> bool
     f.len() != 12 + 4 * (h.block_count as usize) + 8 * (h.interval_count as usize)
 }
 
-// Writes `count` numbers of the file, from number `first` on, over the first entries of an array.
-fn copy_numbers(f: &[u8], first: usize, count: usize, out: &mut [u32])
+// Reads `count` numbers of the file, from number `first` on, over the first entries of an array.
+fn read_numbers(f: &[u8], first: usize, count: usize, out: &mut [u32])
     requires { ⌜ (4 * (first + count) ≤ length (now f)) × (count ≤ length (now out)) ⌝ }
     ensures { λ _. ⌜ now (out .exit) ≡ over (from (number (now (f .entry))) first count) (now (out .entry)) ⌝ }
 {
@@ -47,6 +48,17 @@ fn copy_numbers(f: &[u8], first: usize, count: usize, out: &mut [u32])
         out[i] = number_at(f, first + i);
         i += 1;
     }
+}
+
+// The same over lent entries: by way of a local array, which overlaps neither, so that the compiler moves them as a block and
+// drops the local array.
+fn copy_numbers(f: &[u8], first: usize, count: usize, out: &mut [u32])
+    requires { ⌜ (4 * (first + count) ≤ length (now f)) × (count ≤ length (now out)) × (count ≤ maxIntervals) ⌝ }
+    ensures { λ _. ⌜ now (out .exit) ≡ over (from (number (now (f .entry))) first count) (now (out .entry)) ⌝ }
+{
+    let mut own = [0u32; INTERVALS];
+    read_numbers(f, first, count, &mut own);
+    copy(&own, count, out);
 }
 
 // Decodes a file's tops, ends and blocks over the first entries of arrays.
@@ -61,68 +73,72 @@ fn decode(f: &[u8], h: Header, tops: &mut [u32], ends: &mut [u32], blocks: &mut 
 {
     let block_count = h.block_count as usize;
     let interval_count = h.interval_count as usize;
-    copy_numbers(f, 3, block_count, tops);
-    copy_numbers(f, 3 + block_count, interval_count, ends);
-    copy_numbers(f, 3 + block_count + interval_count, interval_count, blocks);
+    read_numbers(f, 3, block_count, tops);
+    read_numbers(f, 3 + block_count, interval_count, ends);
+    read_numbers(f, 3 + block_count + interval_count, interval_count, blocks);
 }
 
-// Writes a table over the first entries of arrays with room for any table.
+// Writes a file's table over the first entries of arrays with room for any table: its tops and ends and the adjustments from
+// arrays of one's own, its blocks from the file.
 fn write_out(
+    f: &[u8],
     h: Header,
     own_tops: &[u32],
     own_ends: &[u32],
-    own_blocks: &[u32],
     own_adjustments: &[u32],
     tops: &mut [u32],
     ends: &mut [u32],
     blocks: &mut [u32],
     adjustments: &mut [u32],
 )
-    requires { ⌜ Decoded h (now «own_tops») (now «own_ends») (now «own_blocks») ⌝ }
-    requires { ⌜ (h .«interval_count» ≤ length (now «own_adjustments»)) × (roomShort (arraysNow tops ends blocks adjustments) ≡ false) ⌝ }
+    requires { ⌜ Opened (now f) h (arraysNow tops ends blocks adjustments) ⌝ }
+    requires { ⌜
+        (h .«block_count» ≤ length (now «own_tops»)) × (h .«interval_count» ≤ length (now «own_ends»)) ×
+        (h .«interval_count» ≤ length (now «own_adjustments»))
+        ⌝ }
     ensures { λ _.
         ⌜
-        left tops ends blocks adjustments ≡ outOver h (given «own_tops» «own_ends» «own_blocks» «own_adjustments») (given tops ends blocks adjustments)
+        left tops ends blocks adjustments ≡ outOver (now (f .entry)) h (now («own_tops» .entry)) (now («own_ends» .entry))
+        (now («own_adjustments» .entry)) (given tops ends blocks adjustments)
         ⌝ }
 {
     let block_count = h.block_count as usize;
     let interval_count = h.interval_count as usize;
     copy(own_tops, block_count, tops);
     copy(own_ends, interval_count, ends);
-    copy(own_blocks, interval_count, blocks);
+    copy_numbers(f, 3 + block_count + interval_count, interval_count, blocks);
     copy(own_adjustments, interval_count, adjustments);
 }
 
-// The number of the first of rules 12 to 15 that decoded arrays break, or 0; then their table is written.
+// Loads a file whose tops, ends and blocks are in the first three arrays: the adjustments are worked out over the blocks.
 fn settle(
+    f: &[u8],
     h: Header,
     own_tops: &[u32],
     own_ends: &[u32],
-    own_blocks: &[u32],
-    own_adjustments: &mut [u32],
+    own_blocks: &mut [u32],
     tops: &mut [u32],
     ends: &mut [u32],
     blocks: &mut [u32],
     adjustments: &mut [u32],
 ) -> u32
-    requires { ⌜ Decoded h (now «own_tops») (now «own_ends») (now «own_blocks») ⌝ }
-    requires { ⌜ (h .«interval_count» ≤ length (now «own_adjustments»)) × (roomShort (arraysNow tops ends blocks adjustments) ≡ false) ⌝ }
-    ensures { λ r.
-        ⌜
-        Settled h (now («own_tops» .entry)) (now («own_ends» .entry)) (now («own_blocks» .entry)) (given tops ends blocks adjustments) r
-        (left tops ends blocks adjustments)
+    requires { ⌜ Opened (now f) h (arraysNow tops ends blocks adjustments) ⌝ }
+    requires { ⌜
+        (now «own_tops» ≡ fileArrays (now f) h .tops) × (now «own_ends» ≡ fileArrays (now f) h .ends) ×
+        (now «own_blocks» ≡ fileArrays (now f) h .blocks)
         ⌝ }
+    ensures { λ r. ⌜ Loaded (now (f .entry)) (given tops ends blocks adjustments) r (left tops ends blocks adjustments) ⌝ }
 {
-    let broken = complete(h, own_tops, own_ends, own_blocks, own_adjustments);
+    let broken = complete(h, own_tops, own_ends, own_blocks);
     if broken != 0 {
         return broken;
     }
     write_out(
+        f,
         h,
         own_tops,
         own_ends,
         own_blocks,
-        own_adjustments,
         tops,
         ends,
         blocks,
@@ -131,32 +147,30 @@ fn settle(
     0
 }
 
-// Loads a file that is decoded into the first four arrays.
+// The same of arrays that go on behind the file's entries.
 fn load_by(
     f: &[u8],
     h: Header,
-    own_tops: &mut [u32],
-    own_ends: &mut [u32],
+    own_tops: &[u32],
+    own_ends: &[u32],
     own_blocks: &mut [u32],
-    own_adjustments: &mut [u32],
     tops: &mut [u32],
     ends: &mut [u32],
     blocks: &mut [u32],
     adjustments: &mut [u32],
 ) -> u32
     requires { ⌜ Opened (now f) h (arraysNow tops ends blocks adjustments) ⌝ }
-    requires { ⌜ Own h (arraysNow «own_tops» «own_ends» «own_blocks» «own_adjustments») ⌝ }
+    requires { ⌜ Decoded (now f) h (now «own_tops») (now «own_ends») (now «own_blocks») ⌝ }
     ensures { λ r. ⌜ Loaded (now (f .entry)) (given tops ends blocks adjustments) r (left tops ends blocks adjustments) ⌝ }
 {
     let g = h.block_count as usize;
     let k = h.interval_count as usize;
-    decode(f, h, own_tops, own_ends, own_blocks);
     settle(
+        f,
         h,
         &own_tops[..g],
         &own_ends[..k],
-        &own_blocks[..k],
-        own_adjustments,
+        &mut own_blocks[..k],
         tops,
         ends,
         blocks,
@@ -191,10 +205,10 @@ fn load_alone(
         return refusal;
     }
     write_out(
+        f,
         h,
         &own_tops,
         &own_ends,
-        &own_blocks,
         &own_adjustments,
         tops,
         ends,
@@ -204,10 +218,11 @@ fn load_alone(
     0
 }
 
-// The intervals of a file that small arrays do for, which are cleared quickly.
+// The intervals of a file that small arrays do for, and middle ones: an array of one's own is cleared as far as no number is
+// read into it.
 const FEW: usize = 128;
 
-const FEW_AT_MOST: u32 = 128;
+const SOME: usize = 512;
 
 // A file of few intervals.
 fn load_few(
@@ -225,14 +240,43 @@ fn load_few(
     let mut own_tops = [0u32; BLOCKS];
     let mut own_ends = [0u32; FEW];
     let mut own_blocks = [0u32; FEW];
-    let mut own_adjustments = [0u32; FEW];
+    decode(f, h, &mut own_tops, &mut own_ends, &mut own_blocks);
     load_by(
         f,
         h,
-        &mut own_tops,
-        &mut own_ends,
+        &own_tops,
+        &own_ends,
         &mut own_blocks,
-        &mut own_adjustments,
+        tops,
+        ends,
+        blocks,
+        adjustments,
+    )
+}
+
+// A file of some more.
+fn load_some(
+    f: &[u8],
+    h: Header,
+    tops: &mut [u32],
+    ends: &mut [u32],
+    blocks: &mut [u32],
+    adjustments: &mut [u32],
+) -> u32
+    requires { ⌜ Opened (now f) h (arraysNow tops ends blocks adjustments) ⌝ }
+    requires { ⌜ h .«interval_count» ≤ 512 ⌝ }
+    ensures { λ r. ⌜ Loaded (now (f .entry)) (given tops ends blocks adjustments) r (left tops ends blocks adjustments) ⌝ }
+{
+    let mut own_tops = [0u32; BLOCKS];
+    let mut own_ends = [0u32; SOME];
+    let mut own_blocks = [0u32; SOME];
+    decode(f, h, &mut own_tops, &mut own_ends, &mut own_blocks);
+    load_by(
+        f,
+        h,
+        &own_tops,
+        &own_ends,
+        &mut own_blocks,
         tops,
         ends,
         blocks,
@@ -255,19 +299,40 @@ fn load_many(
     let mut own_tops = [0u32; BLOCKS];
     let mut own_ends = [0u32; INTERVALS];
     let mut own_blocks = [0u32; INTERVALS];
-    let mut own_adjustments = [0u32; INTERVALS];
+    decode(f, h, &mut own_tops, &mut own_ends, &mut own_blocks);
     load_by(
         f,
         h,
-        &mut own_tops,
-        &mut own_ends,
+        &own_tops,
+        &own_ends,
         &mut own_blocks,
-        &mut own_adjustments,
         tops,
         ends,
         blocks,
         adjustments,
     )
+}
+
+// A file by arrays of its size.
+fn load_sized(
+    f: &[u8],
+    h: Header,
+    tops: &mut [u32],
+    ends: &mut [u32],
+    blocks: &mut [u32],
+    adjustments: &mut [u32],
+) -> u32
+    requires { ⌜ Opened (now f) h (arraysNow tops ends blocks adjustments) ⌝ }
+    ensures { λ r. ⌜ Loaded (now (f .entry)) (given tops ends blocks adjustments) r (left tops ends blocks adjustments) ⌝ }
+{
+    let intervals = h.interval_count as usize;
+    if SOME < intervals {
+        return load_many(f, h, tops, ends, blocks, adjustments);
+    }
+    if FEW < intervals {
+        return load_some(f, h, tops, ends, blocks, adjustments);
+    }
+    load_few(f, h, tops, ends, blocks, adjustments)
 }
 
 // The reply of a load: its header where it is accepted.
@@ -316,10 +381,6 @@ pub fn loaded(
             return reply(refusal, h);
         }
     }
-    if FEW_AT_MOST < h.interval_count {
-        let refusal = load_many(f, h, tops, ends, blocks, adjustments);
-        return reply(refusal, h);
-    }
-    let refusal = load_few(f, h, tops, ends, blocks, adjustments);
+    let refusal = load_sized(f, h, tops, ends, blocks, adjustments);
     reply(refusal, h)
 }

@@ -306,48 +306,48 @@ pub fn check(h: Header, tops: &[u32], ends: &[u32], blocks: &[u32], adjustments:
     judged(h, tops, ends, blocks, adjustments)
 }
 
-// Works out the adjustments: an interval's start less what its block holds before it. `sums` is then what each block holds.
-fn adjust(
-    h: Header,
-    ends: &[u32],
-    blocks: &[u32],
-    adjustments: &mut [u32],
-    sums: &mut [u32; BLOCKS],
-)
-    requires { ⌜
-        (IntervalsRight h (now ends) (now blocks)) × (h .«interval_count» ≤ length (now adjustments)) × (now sums ≡ replicate maxBlocks 0)
-        ⌝ }
+// Writes each interval's adjustment over its block: its start less what its block holds before it. `sums` is then what each
+// block holds. Two intervals a turn, so that adjustments are stored in pairs.
+fn adjust(h: Header, ends: &[u32], blocks: &mut [u32], sums: &mut [u32; BLOCKS])
+    requires { ⌜ (IntervalsRight h (now ends) (now blocks)) × (now sums ≡ replicate maxBlocks 0) ⌝ }
     ensures { λ _. ⌜ (Held h (now (ends .entry)) (now (blocks .entry)) (now (sums .exit)))
-        × (now (adjustments .exit)
+        × (now (blocks .exit)
         ≡ over (from (adjustmentOf h (arrays [] (now (ends .entry)) (now (blocks .entry)) [])) 0 (h .«interval_count»))
-        (now (adjustments .entry))) ⌝ }
+        (now (blocks .entry))) ⌝ }
 {
     let mut start: u32 = 0;
     let mut i: usize = 0;
-    while i < h.interval_count as usize {
-        let end = ends[i];
+    while i + 1 < h.interval_count as usize {
+        let middle = ends[i];
+        let end = ends[i + 1];
         let block = blocks[i] as usize;
-        let sum = sums[block];
-        adjustments[i] = start - sum;
-        sums[block] = sum + (end - start);
+        let other = blocks[i + 1] as usize;
+        let adjustment = start - sums[block];
+        sums[block] = middle - adjustment;
+        let next = middle - sums[other];
+        sums[other] = end - next;
+        blocks[i] = adjustment;
+        blocks[i + 1] = next;
         start = end;
-        i += 1;
+        i += 2;
     }
+    if i == h.interval_count as usize {
+        return;
+    }
+    let end = ends[i];
+    let block = blocks[i] as usize;
+    let adjustment = start - sums[block];
+    sums[block] = end - adjustment;
+    blocks[i] = adjustment;
 }
 
 // The number of the first of rules 12 to 15 that arrays without adjustments break, or 0. Where it is 0, the adjustments are
-// worked out.
-pub fn complete(
-    h: Header,
-    tops: &[u32],
-    ends: &[u32],
-    blocks: &[u32],
-    adjustments: &mut [u32],
-) -> u32
-    requires { ⌜ (Counted h (now tops) (now ends) (now blocks)) × (h .«interval_count» ≤ length (now adjustments)) ⌝ }
+// worked out, and written over the blocks.
+pub fn complete(h: Header, tops: &[u32], ends: &[u32], blocks: &mut [u32]) -> u32
+    requires { ⌜ Counted h (now tops) (now ends) (now blocks) ⌝ }
     ensures { λ r.
         ⌜
-        Completed h (now (tops .entry)) (now (ends .entry)) (now (blocks .entry)) (now (adjustments .entry)) r (now (adjustments .exit))
+        Completed h (now (tops .entry)) (now (ends .entry)) (now (blocks .entry)) (now (blocks .entry)) r (now (blocks .exit))
         ⌝ }
 {
     let broken = layout_refusal(h, tops, ends, blocks);
@@ -355,7 +355,7 @@ pub fn complete(
         return broken;
     }
     let mut sums = [0u32; BLOCKS];
-    adjust(h, ends, blocks, adjustments, &mut sums);
+    adjust(h, ends, blocks, &mut sums);
     if holdings_wrong(h, tops, &sums) {
         return 15;
     }

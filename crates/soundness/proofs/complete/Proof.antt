@@ -29,6 +29,9 @@ tests-after h a e = layout-after h _ _ _ _ e
 layout-refusal-requires : tie.Need-layout-refusal-requires
 layout-refusal-requires c κs = search needs
 
+same-length : tie.Need-same-length
+same-length c = search needs
+
 returns : tie.Need-returns
 returns c =
     let e = c .before .layout-refusal .ensures in
@@ -52,14 +55,14 @@ passed c = laid _ _ _ _ (clear c)
 
 adjust-requires : tie.Need-adjust-requires
 adjust-requires c κs =
-    let k = c .before .before in (intervals-right _ _ _ _ (entry k .pre .0) (passed k), entry k .pre .1, refl)
+    let k = c .before .before in (intervals-right _ _ _ _ (entry k .pre) (passed k), refl)
 
 holdings-wrong-requires : tie.Need-holdings-wrong-requires
 holdings-wrong-requires c κs =
-    let k = c .before .before .before .before .before .before in tops-right _ _ _ _ (entry k .pre .0) (passed k)
+    let k = c .before .before .before .before .before .before in tops-right _ _ _ _ (entry k .pre) (passed k)
 
-same-length : tie.Need-same-length
-same-length c = search needs
+same-length-2 : tie.Need-same-length-2
+same-length-2 c = search needs
 
 returns-2 : tie.Need-returns-2
 returns-2 c =
@@ -70,8 +73,8 @@ returns-2 c =
       adjusted = λ z. absurd (omega arith);
     }
 
-same-length-2 : tie.Need-same-length-2
-same-length-2 c = search needs
+same-length-3 : tie.Need-same-length-3
+same-length-3 c = search needs
 
 returns-3 : tie.Need-returns-3
 returns-3 c =
@@ -87,10 +90,11 @@ complete-spec =
     tie.close
     (tie.spec
     layout-refusal-requires
+    same-length
     returns
     adjust-requires
     holdings-wrong-requires
-    same-length
-    returns-2
     same-length-2
+    returns-2
+    same-length-3
     returns-3)

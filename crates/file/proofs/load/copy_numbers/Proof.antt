@@ -1,68 +1,41 @@
--- `file::load::copy_numbers` meets its contract. The loop's invariant: the first i numbers are written. Assumes nothing.
-use Prim.Native.Nat.{_-_, _≤_}
-use mathlib.Core.Path.{_≡_, _∙_, ap}
-use native.Mathlib.Omega.{arith}
-use Rattle.model.specs.Basics.{from}
+-- `file::load::copy_numbers` meets its contract: what is read into the local array is what is copied. Assumes nothing.
+use mathlib.Core.Path.{_∙_, ap}
 use Rattle.model.specs.Table.{over}
-use Rattle.model.specs.Saved.{number}
-use Rattle.model.proofs.Entries.{Put, put-none, put-length, put-next, put-over}
+use Rattle.model.proofs.Tables.{length-from}
+use Rattle.file.proofs.Passed.{taken}
+use borrow.Author.Needs.{needs}
 use Rattle.file.proofs.load.copy_numbers.Statement.{statement}
 use Rattle.file.proofs.load.copy_numbers.Tie as tie
 
-abbrev Inv-loop : tie.InvT-loop
-Inv-loop f first count out₀ i₀ out i = (i ≤ count) × Put 0 i (from (number f) first i) out₀ out
+slice-aggregate-read-numbers : tie.Need-slice-aggregate-read-numbers
+slice-aggregate-read-numbers c = search needs
 
-abbrev μ-loop : tie.MeasureT-loop
-μ-loop f first count out₀ i₀ out i = count - i
+read-numbers-requires : tie.Need-read-numbers-requires
+read-numbers-requires c κs = search needs
 
-loop-holds : tie.Need-loop-holds Inv-loop μ-loop
-unfolding from
-loop-holds c = (omega arith, put-none 0 _)
+slice-aggregate-copy : tie.Need-slice-aggregate-copy
+slice-aggregate-copy c = search needs
 
-add-number-at : tie.Need-add-number-at Inv-loop μ-loop
-add-number-at c = omega arith
+copy-requires : tie.Need-copy-requires
+copy-requires c κs = search needs
 
-number-at-requires : tie.Need-number-at-requires Inv-loop μ-loop
-number-at-requires c κs = omega arith
+same-length : tie.Need-same-length
+same-length c = search needs
 
-mul-out : tie.Need-mul-out Inv-loop μ-loop
-mul-out c = omega (arith, put-length (c .before .before .loop .inv .1))
-
-slice-write-out : tie.Need-slice-write-out Inv-loop μ-loop
-slice-write-out c = omega (arith, put-length (c .before .before .loop .inv .1))
-
-add-i : tie.Need-add-i Inv-loop μ-loop
-add-i c = omega arith
-
-loop-less : tie.Need-loop-less Inv-loop μ-loop
-loop-less c = omega arith
-
-loop-again : tie.Need-loop-again Inv-loop μ-loop
-loop-again c = (omega arith, put-next _ _ _ (c .before .before .loop .inv .1) (c .number-at .ensures))
-
-same-length : tie.Need-same-length Inv-loop μ-loop
-same-length c = put-length (c .before .loop .inv .1)
-
-returns : tie.Need-returns Inv-loop μ-loop
+returns : tie.Need-returns
 returns c =
-    let start = c .before .before .before .before in
-    let all : c .before .loop .i ≡ start .args .count = omega arith in
-    put-over (c .before .loop .inv .1) (omega arith)
-    ∙ ap (λ i. over (from (number (start .args .f .now)) (start .args .first) i) (start .args .out .now)) all
+    let copied = c .before .before in
+    let read = copied .before .before .before .before in
+    let start = read .before .before .before .before in
+    copied .copy .ensures ∙ ap (λ xs. over xs (start .args .out .now)) (taken _ _ _ _ (read .read-numbers .ensures) (length-from _ _ _))
 
 pub copy-numbers-spec : {M : Type 1} → statement M
 copy-numbers-spec =
     tie.close
     (tie.spec
-    Inv-loop
-    μ-loop
-    loop-holds
-    add-number-at
-    number-at-requires
-    mul-out
-    slice-write-out
-    add-i
-    loop-less
-    loop-again
+    slice-aggregate-read-numbers
+    read-numbers-requires
+    slice-aggregate-copy
+    copy-requires
     same-length
     returns)

@@ -1,20 +1,33 @@
 -- `file::load::load_alone` meets its contract: the decoded arrays are the file's, and an adjustment of 0 completes them. Assumes nothing.
+use mathlib.Core.Path.{_≡_}
 use native.Mathlib.Omega.{arith}
 use Rattle.model.proofs.Tables.{length-from}
 use Rattle.soundness.specs.Passed.{alone}
-use Rattle.file.specs.Loading.{Decoded}
-use Rattle.file.proofs.Passed.{
-  filled,
-  file-decoded,
-  file-loaded,
-  decoded-counted,
-  alone-completed,
-  settled-refused,
-  settled-accepted,
-}
+use Rattle.file.specs.Loading.{fileArrays}
+use Rattle.file.proofs.Passed.{filled, decoded-counted, decoded-long, alone-completed, loaded-refused, loaded-accepted}
 use borrow.Author.Needs.{needs}
 use Rattle.file.proofs.load.load_alone.Statement.{statement}
 use Rattle.file.proofs.load.load_alone.Tie as tie
+
+-- the decoding before the rules, and the function's entry
+abbrev decoding : tie.After-judged-alone → tie.After-decode
+decoding c = c .before .before .before .before .before .before .before .before
+
+abbrev entry : tie.After-decode → tie.Start
+entry c = c .before .before .before .before .before .before .before .before .before
+
+-- the decoded arrays are the file's
+same
+    : (c : tie.After-decode)
+    → let own = c .decode .last .1 .1 in
+    let a = fileArrays (entry c .args .f .now) (alone (entry c .args .buckets)) in
+    (own .0 ≡ a .tops) × (own .1 .0 ≡ a .ends) × (own .1 .1 .0 ≡ a .blocks)
+same c =
+    let d = c .decode .ensures in (
+      filled _ _ _ (d .0) (length-from _ _ _),
+      filled _ _ _ (d .1 .0) (length-from _ _ _),
+      filled _ _ _ (d .1 .1) (length-from _ _ _),
+    )
 
 slice-aggregate-decode : tie.Need-slice-aggregate-decode
 slice-aggregate-decode c = search needs
@@ -40,35 +53,17 @@ slice-aggregate-judged-alone-3 c = search needs
 slice-aggregate-judged-alone-4 : tie.Need-slice-aggregate-judged-alone-4
 slice-aggregate-judged-alone-4 c = search needs
 
--- the decoding before the rules, and the function's entry
-abbrev decoded : tie.After-judged-alone → tie.After-decode
-decoded c = c .before .before .before .before .before .before .before .before
-
-abbrev entry : tie.After-decode → tie.Start
-entry c = c .before .before .before .before .before .before .before .before .before
-
-ready
-    : (c : tie.After-decode)
-    → let own = c .decode .last .1 .1 in Decoded (alone (entry c .args .buckets)) (own .0) (own .1 .0) (own .1 .1 .0)
-ready c =
-    file-decoded _ _ _ (entry c .pre) _ _ _
-    (filled _ _ _ (c .decode .ensures .0) (length-from _ _ _))
-    (filled _ _ _ (c .decode .ensures .1 .0) (length-from _ _ _))
-    (filled _ _ _ (c .decode .ensures .1 .1) (length-from _ _ _))
-
 judged-alone-requires : tie.Need-judged-alone-requires
 judged-alone-requires c κs =
-    (decoded-counted _ _ _ _ (ready (c .before .before .before .before .before .before .before)), omega arith)
+    let k = c .before .before .before .before .before .before .before in
+    let s = same k in (decoded-counted _ _ _ (entry k .pre) _ _ _ (s .0) (s .1) (s .2), omega arith)
 
 returns : tie.Need-returns
 returns c =
-    let k = decoded (c .before) in
-    file-loaded _ _ _ (entry k .pre) _ _ _
-    (filled _ _ _ (k .decode .ensures .0) (length-from _ _ _))
-    (filled _ _ _ (k .decode .ensures .1 .0) (length-from _ _ _))
-    (filled _ _ _ (k .decode .ensures .1 .1) (length-from _ _ _))
-    _ _ _
-    (settled-refused _ _ _ _ (ready k) _ _ _ (alone-completed _ _ _ _ _ _ (omega arith) (c .before .judged-alone .ensures)) _ (c .if1 .taken))
+    let k = decoding (c .before) in
+    let s = same k in
+    loaded-refused _ _ _ (entry k .pre) _ _ _ (s .0) (s .1) (s .2) _ _ _
+    (alone-completed _ _ _ _ _ _ (omega arith) (c .before .judged-alone .ensures)) _ (c .if1 .taken)
 
 slice-aggregate-write-out : tie.Need-slice-aggregate-write-out
 slice-aggregate-write-out c = search needs
@@ -79,13 +74,11 @@ slice-aggregate-write-out-2 c = search needs
 slice-aggregate-write-out-3 : tie.Need-slice-aggregate-write-out-3
 slice-aggregate-write-out-3 c = search needs
 
-slice-aggregate-write-out-4 : tie.Need-slice-aggregate-write-out-4
-slice-aggregate-write-out-4 c = search needs
-
 write-out-requires : tie.Need-write-out-requires
 write-out-requires c κs =
-    let k = decoded (c .before .before .before .before .before .before .before .before .before) in
-    (ready k, (omega arith, entry k .pre .room))
+    let k = decoding (c .before .before .before .before .before .before .before .before) in
+    let s = same k in
+    let long = decoded-long _ _ _ (entry k .pre) _ _ _ (s .0) (s .1) (s .2) in (entry k .pre, (long .0, long .1, omega arith))
 
 same-length : tie.Need-same-length
 same-length c = search needs
@@ -102,15 +95,12 @@ same-length-4 c = search needs
 returns-2 : tie.Need-returns-2
 returns-2 c =
     let written = c .before .before .before .before .before .before .before .before in
-    let passed = written .before .before .before .before .before .before .before .before .before in
-    let k = decoded (passed .before) in
-    file-loaded _ _ _ (entry k .pre) _ _ _
-    (filled _ _ _ (k .decode .ensures .0) (length-from _ _ _))
-    (filled _ _ _ (k .decode .ensures .1 .0) (length-from _ _ _))
-    (filled _ _ _ (k .decode .ensures .1 .1) (length-from _ _ _))
-    _ _ _
-    (settled-accepted _ _ _ _ (ready k) _ _ _ (alone-completed _ _ _ _ _ _ (omega arith) (passed .before .judged-alone .ensures)) _ (passed .if1 .left) _
-    (written .write-out .ensures))
+    let passed = written .before .before .before .before .before .before .before .before in
+    let k = decoding (passed .before) in
+    let s = same k in
+    loaded-accepted _ _ _ (entry k .pre) _ _ _ (s .0) (s .1) (s .2) _ _ _
+    (alone-completed _ _ _ _ _ _ (omega arith) (passed .before .judged-alone .ensures)) _ (passed .if1 .left) _
+    (written .write-out .ensures)
 
 pub load-alone-spec : {M : Type 1} → statement M
 load-alone-spec =
@@ -129,7 +119,6 @@ load-alone-spec =
     slice-aggregate-write-out
     slice-aggregate-write-out-2
     slice-aggregate-write-out-3
-    slice-aggregate-write-out-4
     write-out-requires
     same-length
     same-length-2

@@ -1,6 +1,8 @@
--- `file::load::load_by` meets its contract: the decoded arrays are the file's, and are settled. Assumes nothing.
+-- `file::load::load_by` meets its contract: the first entries of the arrays are the file's. Assumes nothing.
+use mathlib.Core.Path.{sym, _∙_, ap}
+use native.Mathlib.Omega.{arith}
+use lib.ListN.{length, length-take}
 use Rattle.model.proofs.Tables.{length-from}
-use Rattle.file.proofs.Passed.{taken, taken-length, file-decoded, file-loaded}
 use borrow.Author.Needs.{needs}
 use Rattle.file.proofs.load.load_by.Statement.{statement}
 use Rattle.file.proofs.load.load_by.Tie as tie
@@ -11,44 +13,32 @@ cast-g c = search needs
 cast-k : tie.Need-cast-k
 cast-k c = search needs
 
-decode-requires : tie.Need-decode-requires
-decode-requires c κs = search needs
-
--- the function's entry, from after the decoding
-abbrev entry : tie.After-decode → tie.Start
-entry c = c .before .before .before .before .before .before .before .before .before .before .before .before .before .before .before
-
-slice-reshare-prefix-settle : tie.Need-slice-reshare-prefix-settle
-slice-reshare-prefix-settle c = search needs
+-- the function's entry, from after the first part
+abbrev entry : tie.After-settle-arg → tie.Start
+entry c = c .before .before .before .before .before .before .before .before .before .before .before
 
 slice-aggregate-settle : tie.Need-slice-aggregate-settle
-slice-aggregate-settle c = let k = c .before .before .before .before .before .before .before in taken-length _ _ _ _ (k .decode .ensures .0) (length-from _ _ _)
-
-slice-reshare-prefix-settle-2 : tie.Need-slice-reshare-prefix-settle-2
-slice-reshare-prefix-settle-2 c = search needs
+slice-aggregate-settle c = sym (ap length (entry c .pre .1 .topsRead) ∙ length-from _ _ _)
 
 slice-aggregate-settle-2 : tie.Need-slice-aggregate-settle-2
-slice-aggregate-settle-2 c =
-    let k = c .before .before .before .before .before .before .before .before in taken-length _ _ _ _ (k .decode .ensures .1 .0) (length-from _ _ _)
+slice-aggregate-settle-2 c = sym (ap length (entry (c .before) .pre .1 .endsRead) ∙ length-from _ _ _)
 
-slice-reshare-prefix-settle-3 : tie.Need-slice-reshare-prefix-settle-3
-slice-reshare-prefix-settle-3 c = search needs
+slice-relend-prefix-settle : tie.Need-slice-relend-prefix-settle
+slice-relend-prefix-settle c =
+    let start = entry (c .before) in
+    omega (
+      arith,
+      length-take (start .args .h .«interval_count») (start .args .own-blocks .now),
+      ap length (start .pre .1 .blocksRead) ∙ length-from _ _ _,
+    )
 
 slice-aggregate-settle-3 : tie.Need-slice-aggregate-settle-3
-slice-aggregate-settle-3 c =
-    let k = c .before .before .before .before .before .before .before .before .before in
-    taken-length _ _ _ _ (k .decode .ensures .1 .1) (length-from _ _ _)
+slice-aggregate-settle-3 c = sym (ap length (entry (c .before .before) .pre .1 .blocksRead) ∙ length-from _ _ _)
 
 settle-requires : tie.Need-settle-requires
 settle-requires c κs =
-    let k = c .before .before .before .before .before .before .before .before .before .before .before .before .before .before in
-    let start = entry k in (
-      file-decoded _ _ _ (start .pre .0) _ _ _
-          (taken _ _ _ _ (k .decode .ensures .0) (length-from _ _ _))
-          (taken _ _ _ _ (k .decode .ensures .1 .0) (length-from _ _ _))
-          (taken _ _ _ _ (k .decode .ensures .1 .1) (length-from _ _ _)),
-      (start .pre .1 .adjustments, start .pre .0 .room),
-    )
+    let start = entry (c .before .before .before .before .before .before) in
+    let own = start .pre .1 in (start .pre .0, (own .topsRead, own .endsRead, own .blocksRead))
 
 same-length : tie.Need-same-length
 same-length c = search needs
@@ -65,24 +55,8 @@ same-length-4 c = search needs
 same-length-5 : tie.Need-same-length-5
 same-length-5 c = search needs
 
-same-length-6 : tie.Need-same-length-6
-same-length-6 c = search needs
-
-same-length-7 : tie.Need-same-length-7
-same-length-7 c = search needs
-
-same-length-8 : tie.Need-same-length-8
-same-length-8 c = search needs
-
 returns : tie.Need-returns
-returns c =
-    let k = c .before .before .before .before .before .before .before .before .before .before .before .before .before .before .before .before .before
-    .before .before .before .before .before .before .before .before in
-    file-loaded _ _ _ (entry k .pre .0) _ _ _
-    (taken _ _ _ _ (k .decode .ensures .0) (length-from _ _ _))
-    (taken _ _ _ _ (k .decode .ensures .1 .0) (length-from _ _ _))
-    (taken _ _ _ _ (k .decode .ensures .1 .1) (length-from _ _ _))
-    _ _ _ (c .before .before .before .before .before .before .before .before .before .before .settle .ensures)
+returns c = c .before .before .before .before .before .before .before .before .before .before .settle .ensures
 
 pub load-by-spec : {M : Type 1} → statement M
 load-by-spec =
@@ -90,12 +64,9 @@ load-by-spec =
     (tie.spec
     cast-g
     cast-k
-    decode-requires
-    slice-reshare-prefix-settle
     slice-aggregate-settle
-    slice-reshare-prefix-settle-2
     slice-aggregate-settle-2
-    slice-reshare-prefix-settle-3
+    slice-relend-prefix-settle
     slice-aggregate-settle-3
     settle-requires
     same-length
@@ -103,7 +74,4 @@ load-by-spec =
     same-length-3
     same-length-4
     same-length-5
-    same-length-6
-    same-length-7
-    same-length-8
     returns)

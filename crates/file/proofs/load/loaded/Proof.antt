@@ -62,8 +62,8 @@ returns-2 c =
     let opening = called .before .before .before .before .before .before .before .before .before in
     loaded-replied _ _ _ _ _ _ (opening .header-of .ensures) (called .load-alone .ensures) (c .reply .ensures)
 
-load-many-requires : tie.Need-load-many-requires
-load-many-requires c κs = ready (c .before .before .before .before .before .before .before .before)
+load-sized-requires : tie.Need-load-sized-requires
+load-sized-requires c κs = ready (c .before .before .before .before .before .before)
 
 reply-requires-2 : tie.Need-reply-requires-2
 reply-requires-2 c κs = search needs
@@ -83,32 +83,8 @@ same-length-8 c = search needs
 returns-3 : tie.Need-returns-3
 returns-3 c =
     let called = c .before .before .before .before .before .before .before .before .before in
-    let opening = called .before .before .before .before .before .before .before .before .before in
-    loaded-replied _ _ _ _ _ _ (opening .header-of .ensures) (called .load-many .ensures) (c .reply2 .ensures)
-
-load-few-requires : tie.Need-load-few-requires
-load-few-requires c κs = (ready (c .before .before .before .before .before .before .before .before), omega arith)
-
-reply-requires-3 : tie.Need-reply-requires-3
-reply-requires-3 c κs = search needs
-
-same-length-9 : tie.Need-same-length-9
-same-length-9 c = search needs
-
-same-length-10 : tie.Need-same-length-10
-same-length-10 c = search needs
-
-same-length-11 : tie.Need-same-length-11
-same-length-11 c = search needs
-
-same-length-12 : tie.Need-same-length-12
-same-length-12 c = search needs
-
-returns-4 : tie.Need-returns-4
-returns-4 c =
-    let called = c .before .before .before .before .before .before .before .before .before in
-    let opening = called .before .before .before .before .before .before .before .before .before in
-    loaded-replied _ _ _ _ _ _ (opening .header-of .ensures) (called .load-few .ensures) (c .reply3 .ensures)
+    let opening = called .before .before .before .before .before .before .before in
+    loaded-replied _ _ _ _ _ _ (opening .header-of .ensures) (called .load-sized .ensures) (c .reply2 .ensures)
 
 pub loaded-spec : {M : Type 1} → statement M
 loaded-spec =
@@ -124,17 +100,10 @@ loaded-spec =
     same-length-3
     same-length-4
     returns-2
-    load-many-requires
+    load-sized-requires
     reply-requires-2
     same-length-5
     same-length-6
     same-length-7
     same-length-8
-    returns-3
-    load-few-requires
-    reply-requires-3
-    same-length-9
-    same-length-10
-    same-length-11
-    same-length-12
-    returns-4)
+    returns-3)

@@ -1,7 +1,7 @@
 -- `file::load::settle` meets its contract: rules 12 to 15, then the table is written. Assumes nothing.
 use mathlib.Core.List.{[]}
 use Rattle.model.specs.Table.{arrays}
-use Rattle.file.proofs.Passed.{decoded-counted, completed-long, settled-refused, settled-accepted}
+use Rattle.file.proofs.Passed.{decoded-counted, decoded-long, completed-long, loaded-refused, loaded-accepted}
 use borrow.Author.Needs.{needs}
 use Rattle.file.proofs.load.settle.Statement.{statement}
 use Rattle.file.proofs.load.settle.Tie as tie
@@ -13,24 +13,29 @@ begun c = c .before .before .before .before .before .before .before .before .bef
 complete-requires : tie.Need-complete-requires
 complete-requires c κs =
     let start = c .before .before .before .before .before .before .before .before .before in
-    (decoded-counted _ _ _ _ (start .pre .0), start .pre .1 .0)
+    let own = start .pre .1 in decoded-counted _ _ _ (start .pre .0) _ _ _ (own .0) (own .1) (own .2)
 
 same-length : tie.Need-same-length
 same-length c = search needs
 
 returns : tie.Need-returns
 returns c =
-    let start = begun (c .before .before .before) in
-    settled-refused _ _ _ _ (start .pre .0) _ _ _ (c .before .before .before .complete .ensures) _ (c .if1 .taken)
+    let ruled = c .before .before .before in
+    let start = begun ruled in
+    let own = start .pre .1 in
+    loaded-refused _ _ _ (start .pre .0) _ _ _ (own .0) (own .1) (own .2) _ _ _ (ruled .complete .ensures) _ (c .if1 .taken)
 
 write-out-requires : tie.Need-write-out-requires
 write-out-requires c κs =
     let passed = c .before .before .before .before .before in
-    let start = begun (passed .before .before .before) in
-    let d = start .pre .0 in
-    let long =
-    completed-long _ _ _ _ d _ _ _ (passed .before .before .before .complete .ensures) (arrays [] [] [] []) (passed .if1 .left) (start .pre .1 .0) in
-    (d, (long, start .pre .1 .1))
+    let ruled = passed .before .before .before in
+    let start = begun ruled in
+    let own = start .pre .1 in
+    let long = decoded-long _ _ _ (start .pre .0) _ _ _ (own .0) (own .1) (own .2) in
+    let left =
+    completed-long _ _ _ (start .pre .0) _ _ _ (own .0) (own .1) (own .2) _ _ _ (ruled .complete .ensures) (arrays [] [] [] []) (passed .if1 .left)
+    (long .2) in
+    (start .pre .0, (long .0, long .1, left))
 
 same-length-2 : tie.Need-same-length-2
 same-length-2 c = search needs
@@ -51,8 +56,10 @@ returns-2 : tie.Need-returns-2
 returns-2 c =
     let written = c .before .before .before .before .before .before .before .before in
     let passed = written .before .before .before .before .before .before in
-    let start = begun (passed .before .before .before) in
-    settled-accepted _ _ _ _ (start .pre .0) _ _ _ (passed .before .before .before .complete .ensures) _ (passed .if1 .left) _
+    let ruled = passed .before .before .before in
+    let start = begun ruled in
+    let own = start .pre .1 in
+    loaded-accepted _ _ _ (start .pre .0) _ _ _ (own .0) (own .1) (own .2) _ _ _ (ruled .complete .ensures) _ (passed .if1 .left) _
     (written .write-out .ensures)
 
 pub settle-spec : {M : Type 1} → statement M

@@ -13,14 +13,14 @@ entry c = c .before .before .before .before .before .before .before .before .bef
 abbrev after2 : tie.After-copy2 → tie.After-copy
 after2 c = c .before .before .before .before
 
-abbrev after3 : tie.After-copy3 → tie.After-copy2
+abbrev after3 : tie.After-copy-numbers → tie.After-copy2
 after3 c = c .before .before .before .before
 
 -- the arrays have room
 room
     : (c : tie.Start)
     → Roomy (arrays (c .args .tops .now) (c .args .ends .now) (c .args .blocks .now) (c .args .adjustments .now))
-room c = roomy _ (c .pre .1 .1)
+room c = roomy _ (c .pre .0 .room)
 
 cast-block-count : tie.Need-cast-block-count
 cast-block-count c = search needs
@@ -31,21 +31,50 @@ cast-interval-count c = search needs
 copy-requires : tie.Need-copy-requires
 copy-requires c κs =
     let start = c .before .before .before .before .before .before .before .before .before .before .before in
-    let d = start .pre .0 in
+    let d = start .pre .0 .counted in
+    let l = start .pre .1 in
     let r = room start in
     omega arith
 
 copy-requires-2 : tie.Need-copy-requires-2
 copy-requires-2 c κs =
-    let start = entry (c .before .before .before) in let d = start .pre .0 in let r = room start in omega arith
+    let start = entry (c .before .before .before) in
+    let d = start .pre .0 .counted in
+    let l = start .pre .1 in
+    let r = room start in
+    omega arith
+
+add-copy-numbers : tie.Need-add-copy-numbers
+add-copy-numbers c =
+    let start = entry (after2 (c .before .before)) in
+    let d = start .pre .0 .counted in
+    let l = start .pre .1 in
+    let r = room start in
+    omega arith
+
+add-copy-numbers-2 : tie.Need-add-copy-numbers-2
+add-copy-numbers-2 c =
+    let start = entry (after2 (c .before .before)) in
+    let d = start .pre .0 .counted in
+    let l = start .pre .1 in
+    let r = room start in
+    omega arith
+
+copy-numbers-requires : tie.Need-copy-numbers-requires
+copy-numbers-requires c κs =
+    let start = entry (after2 (c .before .before .before)) in
+    let d = start .pre .0 .counted in
+    let l = start .pre .1 in
+    let r = room start in
+    omega arith
 
 copy-requires-3 : tie.Need-copy-requires-3
 copy-requires-3 c κs =
-    let start = entry (after2 (c .before .before .before)) in let d = start .pre .0 in let r = room start in omega arith
-
-copy-requires-4 : tie.Need-copy-requires-4
-copy-requires-4 c κs =
-    let start = entry (after2 (after3 (c .before .before .before))) in let d = start .pre .0 in let r = room start in omega arith
+    let start = entry (after2 (after3 (c .before .before .before))) in
+    let d = start .pre .0 .counted in
+    let l = start .pre .1 in
+    let r = room start in
+    omega arith
 
 same-length : tie.Need-same-length
 same-length c = search needs
@@ -65,7 +94,7 @@ returns c =
     let c3 = c4 .before .before .before .before in
     let c2 = after3 c3 in
     let c1 = after2 c2 in
-    λ i. arrays (c1 .copy .ensures i) (c2 .copy2 .ensures i) (c3 .copy3 .ensures i) (c4 .copy4 .ensures i)
+    λ i. arrays (c1 .copy .ensures i) (c2 .copy2 .ensures i) (c3 .copy-numbers .ensures i) (c4 .copy3 .ensures i)
 
 pub write-out-spec : {M : Type 1} → statement M
 write-out-spec =
@@ -75,8 +104,10 @@ write-out-spec =
     cast-interval-count
     copy-requires
     copy-requires-2
+    add-copy-numbers
+    add-copy-numbers-2
+    copy-numbers-requires
     copy-requires-3
-    copy-requires-4
     same-length
     same-length-2
     same-length-3

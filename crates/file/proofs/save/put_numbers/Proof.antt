@@ -1,85 +1,58 @@
--- `file::save::put_numbers` meets its contract. The loop's invariant: the bytes of the first i numbers are written.
--- Assumes nothing.
-use Prim.Native.Nat.{_+_, _-_, _*_, _≤_, _<_}
-use mathlib.Core.Path.{_≡_, _∙_, ap}
-use native.Mathlib.Nat.{add-zero}
-use native.Mathlib.Omega.{arith}
-use lib.ListN.{length, take}
-use lib.Seq.{sets}
-use Rattle.model.specs.Basics.{joined}
-use Rattle.model.specs.Saved.{bytesOf}
-use Rattle.model.proofs.Bytes.{bytesOfAll, bytes-next}
-use Rattle.model.proofs.Entries.{Put, put-none, put-length, put-more}
+-- `file::save::put_numbers` meets its contract: what is copied to the local array is what is put. Assumes nothing.
+use mathlib.Core.Path.{_∙_, ap}
+use lib.ListN.{take}
+use lib.Seq.{sets, length-take-le}
+use borrow.Author.Needs.{needs}
+use Rattle.model.proofs.Bytes.{bytesOfAll}
+use Rattle.file.proofs.Passed.{taken}
 use Rattle.file.proofs.save.put_numbers.Statement.{statement}
 use Rattle.file.proofs.save.put_numbers.Tie as tie
 
-abbrev Inv-loop : tie.InvT-loop
-Inv-loop xs count out₀ at i₀ out i =
-    (i ≤ count) × Put at (at + 4 * i) (bytesOfAll (take i xs)) out₀ out
+put-each-requires : tie.Need-put-each-requires
+put-each-requires c κs = search needs
 
-abbrev μ-loop : tie.MeasureT-loop
-μ-loop xs count out₀ at i₀ out i = count - i
+same-length : tie.Need-same-length
+same-length c = search needs
 
-loop-holds : tie.Need-loop-holds Inv-loop μ-loop
-unfolding joined
-loop-holds c = (omega arith, rw add-zero (put-none _ _))
+returns : tie.Need-returns
+returns c = search needs
 
-mul-put-number : tie.Need-mul-put-number Inv-loop μ-loop
-mul-put-number c = omega arith
+slice-aggregate-copy : tie.Need-slice-aggregate-copy
+slice-aggregate-copy c = search needs
 
-add-put-number : tie.Need-add-put-number Inv-loop μ-loop
-add-put-number c = omega arith
+copy-requires : tie.Need-copy-requires
+copy-requires c κs = search needs
 
-mul-put-number-2 : tie.Need-mul-put-number-2 Inv-loop μ-loop
-mul-put-number-2 c = omega arith
+slice-aggregate-put-each : tie.Need-slice-aggregate-put-each
+slice-aggregate-put-each c = search needs
 
-shared-slice-read-put-number : tie.Need-shared-slice-read-put-number Inv-loop μ-loop
-shared-slice-read-put-number c = omega arith
+put-each-requires-2 : tie.Need-put-each-requires-2
+put-each-requires-2 c κs = search needs
 
-put-number-requires : tie.Need-put-number-requires Inv-loop μ-loop
-put-number-requires c κs = omega (arith, put-length (c .before .before .before .loop .inv .1))
+same-length-2 : tie.Need-same-length-2
+same-length-2 c = search needs
 
-add-i : tie.Need-add-i Inv-loop μ-loop
-add-i c = omega arith
-
-loop-less : tie.Need-loop-less Inv-loop μ-loop
-loop-less c = omega arith
-
-loop-again : tie.Need-loop-again Inv-loop μ-loop
-unfolding bytesOf
-loop-again c =
-    let start = c .before .before .before .before .before .before .before .before .before in
-    let turn = c .before .before .before .before .before .before .loop in
-    let inside : turn .i < length (start .args .xs .now) = omega arith in (
-      omega arith,
-      rw (bytes-next (start .args .xs .now) (turn .i))
-          (put-more (turn .inv .1) _ (c .before .before .put-number .ensures) (omega arith)),
-    )
-
-same-length : tie.Need-same-length Inv-loop μ-loop
-same-length c = put-length (c .before .loop .inv .1)
-
-returns : tie.Need-returns Inv-loop μ-loop
-returns c =
-    let start = c .before .before .before .before in
-    let all : c .before .loop .i ≡ start .args .count = omega arith in
-    c .before .loop .inv .1 .holds
-    ∙ ap (λ i. sets (start .args .out .now) (start .args .at) (bytesOfAll (take i (start .args .xs .now)))) all
+returns-2 : tie.Need-returns-2
+returns-2 c =
+    let put = c .before .before in
+    let copied = put .before .before .before .before in
+    let start = copied .before .before .before .before .before in
+    let xs = start .args .xs .now in
+    let n = start .args .count in
+    put .put-each2 .ensures
+    ∙ ap (λ l. sets (start .args .out .now) (start .args .at) (bytesOfAll l))
+    (taken (take n xs) _ _ n (copied .copy .ensures) (length-take-le n xs (start .pre .0)))
 
 pub put-numbers-spec : {M : Type 1} → statement M
 put-numbers-spec =
     tie.close
     (tie.spec
-    Inv-loop
-    μ-loop
-    loop-holds
-    mul-put-number
-    add-put-number
-    mul-put-number-2
-    shared-slice-read-put-number
-    put-number-requires
-    add-i
-    loop-less
-    loop-again
+    put-each-requires
     same-length
-    returns)
+    returns
+    slice-aggregate-copy
+    copy-requires
+    slice-aggregate-put-each
+    put-each-requires-2
+    same-length-2
+    returns-2)

@@ -42,6 +42,10 @@ put-number-requires-3 : tie.Need-put-number-requires-3
 unfolding savedLength
 put-number-requires-3 c κs = omega arith
 
+put-each-requires : tie.Need-put-each-requires
+unfolding savedLength
+put-each-requires c κs = omega arith
+
 put-numbers-requires : tie.Need-put-numbers-requires
 unfolding savedLength
 put-numbers-requires c κs = omega arith
@@ -49,10 +53,6 @@ put-numbers-requires c κs = omega arith
 put-numbers-requires-2 : tie.Need-put-numbers-requires-2
 unfolding savedLength
 put-numbers-requires-2 c κs = omega arith
-
-put-numbers-requires-3 : tie.Need-put-numbers-requires-3
-unfolding savedLength
-put-numbers-requires-3 c κs = omega arith
 
 same-length : tie.Need-same-length
 same-length c = search needs
@@ -70,18 +70,20 @@ returns c =
     let h = start .args .h in
     let old = start .args .out .now in
     let a = arrays (start .args .tops .now) (start .args .ends .now) (start .args .blocks .now) [] in
-    let room : 12 + 4 * h .«block_count» + 8 * h .«interval_count» ≤ length old = start .pre .3 in
+    let room : 12 + 4 * h .«block_count» + 8 * h .«interval_count» ≤ length old = start .pre .4 in
     let s1 = put-more (put-none 0 old) {o′ = 4} (bytesOf (h .buckets)) (c1 .put-number .ensures) refl in
     let s2 = put-more s1 {o′ = 8} (bytesOf (h .«block_count»)) (c2 .put-number2 .ensures) refl in
     let s3 = put-more s2 {o′ = 12} (bytesOf (h .«interval_count»)) (c3 .put-number3 .ensures) refl in
     let s4 =
-    put-more s3 {o′ = 12 + 4 * h .«block_count»} (bytesOfAll (take (h .«block_count») (a .tops))) (c4 .put-numbers .ensures)
+    put-more s3 {o′ = 12 + 4 * h .«block_count»} (bytesOfAll (take (h .«block_count») (a .tops))) (c4 .put-each .ensures)
     (omega (arith, bytes-length (a .tops) (h .«block_count») (start .pre .0))) in
     let s5 =
-    put-more s4 {o′ = 12 + 4 * h .«block_count» + 4 * h .«interval_count»} (bytesOfAll (take (h .«interval_count») (a .ends))) (c5 .put-numbers2 .ensures)
+    put-more s4 {o′ = 12 + 4 * h .«block_count» + 4 * h .«interval_count»} (bytesOfAll (take (h .«interval_count») (a .ends)))
+    (c5 .put-numbers .ensures)
     (omega (arith, bytes-length (a .ends) (h .«interval_count») (start .pre .1))) in
     let s6 =
-    put-more s5 {o′ = 12 + 4 * h .«block_count» + 8 * h .«interval_count»} (bytesOfAll (take (h .«interval_count») (a .blocks))) (c6 .put-numbers3 .ensures)
+    put-more s5 {o′ = 12 + 4 * h .«block_count» + 8 * h .«interval_count»} (bytesOfAll (take (h .«interval_count») (a .blocks)))
+    (c6 .put-numbers2 .ensures)
     (omega (arith, bytes-length (a .blocks) (h .«interval_count») (start .pre .2))) in
     put-over s6 room
     ∙ ap (λ w. over w old)
@@ -100,8 +102,8 @@ write-saved-spec =
     put-number-requires
     put-number-requires-2
     put-number-requires-3
+    put-each-requires
     put-numbers-requires
     put-numbers-requires-2
-    put-numbers-requires-3
     same-length
     returns)
