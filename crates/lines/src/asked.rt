@@ -37,8 +37,8 @@ fn eight_digits(text: &[u8], at: usize) -> bool
         & is_digit(text[at + 7])
 }
 
-// The value of four digits. They are read as one number, of which each byte is a digit; of its sum with ten times itself, shifted by
-// a byte, each second byte is the value of a pair.
+// The value of four digits. As one number, low byte first, less the codes of four zeros (808,464,432), they are its bytes; ten times it
+// and itself shifted by a byte add up to the values of pairs, in every second byte.
 fn four(text: &[u8], at: usize) -> u32
     requires { ⌜ (at + 4 ≤ length (now text)) × (digitsOnly (bytesAt (now text) at 4) ≡ true) ⌝ }
     ensures { λ r. ⌜ r ≡ value (bytesAt (now (text .entry)) at 4) ⌝ }
