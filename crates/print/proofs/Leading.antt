@@ -64,6 +64,13 @@ four-high n = omega arith
 four-low : (n : ℕ) → n % 10_000 % 100 ≡ n % 100
 four-low n = omega arith
 
+-- the two halves of its last eight
+eight-high : (n : ℕ) → n % 100_000_000 / 10_000 ≡ n / 10_000 % 10_000
+eight-high n = omega arith
+
+eight-low : (n : ℕ) → n % 100_000_000 % 10_000 ≡ n % 10_000
+eight-low n = omega arith
+
 module _ {at o r : ℕ} (place : o + r ≡ suc at) where
   pub lead-two : (n : ℕ) → n < 100 → Below n 10 r → Lead at o (decimal n) (pairOf n)
   lead-two n u b =
@@ -96,7 +103,8 @@ module _ {at o r : ℕ} (place : o + r ≡ suc at) where
 
   pub lead-ten
       : (n : ℕ) → 100_000_000 ≤ n → n < 2 ^ 32 → Below n 1_000_000_000 r
-      → Lead at o (decimal n) (pairOf (n / 100_000_000) ++ (fourOf (n / 10_000 % 10_000) ++ fourOf (n % 10_000)))
+      → Lead at o (decimal n)
+      (pairOf (n / 100_000_000) ++ (fourOf (n % 100_000_000 / 10_000) ++ fourOf (n % 100_000_000 % 10_000)))
   lead-ten n l u b =
       let first : n / 100 / 10_000 / 100 ≡ n / 100_000_000 = omega arith in
       let second : n / 100 / 10_000 % 100 ≡ n / 10_000 % 10_000 / 100 = omega arith in
@@ -104,5 +112,5 @@ module _ {at o r : ℕ} (place : o + r ≡ suc at) where
       let same : n / 100 / 100 % 100 ≡ n / 10_000 % 100 = omega arith in
       four-high (n / 100) ∙ same ∙ sym (four-low (n / 10_000)) in
       let fourth : n / 100 % 10_000 % 100 ≡ n % 10_000 / 100 = four-low (n / 100) ∙ sym (four-high n) in
-      rw (← first, ← second, ← third, ← fourth, four-low n)
+      rw (eight-high n, eight-low n, ← first, ← second, ← third, ← fourth, four-low n)
       (lead-more n (omega arith) u (lead-eight (n / 100) (omega arith) (omega arith) (below-hundredth 10_000_000 b)))

@@ -1,5 +1,5 @@
 -- The parts of a printed line. Assumes nothing.
-use Prim.Native.Nat.{ℕ, zero, suc, _+_, _/_, _%_}
+use Prim.Native.Nat.{ℕ, zero, suc, _+_, _*_, _/_, _%_}
 use mathlib.Core.List.{List, [], _∷_, _++_, map}
 use Rattle.model.specs.Basics.{joined}
 use Rattle.model.specs.Console.{decimal}
@@ -23,6 +23,11 @@ fourOf x = pairOf (x / 100) ++ pairOf (x % 100)
 unfoldable pub bytesOf : ℕ → ℕ → List ℕ
 bytesOf zero x = []
 bytesOf (suc k) x = x % 256 ∷ bytesOf k (x / 256)
+
+-- the number that bytes make up, the lowest first
+unfoldable pub wordOf : List ℕ → ℕ
+wordOf [] = 0
+wordOf (b ∷ bs) = 256 * wordOf bs + b
 
 -- numbers in decimal, a blank before each
 unfoldable pub numbers : List ℕ → List ℕ

@@ -1,13 +1,13 @@
 // A number in decimal, with a blank before it. How many digits it has picks the function; each stores them by pairs or eight at a
 // time, and the zero before a single first digit where the blank goes.
-ghost use mathlib.Core.List.{_∷_, _++_};
+ghost use mathlib.Core.List.{_∷_, _++_, reverse};
 ghost use mathlib.Core.Path.{_≡_};
 ghost use mathlib.Core.Logic.{_⊎_};
-ghost use Prim.Native.Nat.{_+_, _≤_, _<_};
+ghost use Prim.Native.Nat.{_+_, _/_, _%_, _≤_, _<_};
 ghost use lib.ListN.{length};
 ghost use lib.Seq.{sets};
 ghost use Rattle.model.specs.Console.{decimal};
-ghost use Rattle.print.specs.Numbers.{pairOf, fourOf, bytesOf};
+ghost use Rattle.print.specs.Numbers.{pairOf, fourOf, bytesOf, wordOf};
 
 // What stands before a number.
 const BLANK: u8 = b' ';
@@ -49,20 +49,35 @@ fn put_bytes(x: u64, out: &mut [u8], at: usize)
     out[at + 7] = (x / 72_057_594_037_927_936 % 256) as u8;
 }
 
-// Writes two numbers below 10,000 in four digits each, all eight at once: the two numbers stand in the halves of a word, their
-// hundreds and what is over in its quarters, and the digits in its bytes. `* 5_243 / 524_288` is `/ 100` in each half, and
-// `* 103 / 1_024` is `/ 10` in each quarter.
-fn put_fours(high: u32, low: u32, out: &mut [u8], at: usize)
-    requires below { ⌜ (high < 10_000) × (low < 10_000) ⌝ }
-    requires room { ⌜ at + 8 ≤ length (now out) ⌝ }
-    ensures { λ _. ⌜ now (out .exit) ≡ sets (now (out .entry)) at (fourOf high ++ fourOf low) ⌝ }
+// The bytes of x in the other order: one instruction.
+fn reversed(x: u64) -> u64
+    ensures { λ r. ⌜ r ≡ wordOf (reverse (bytesOf 8 x)) ⌝ }
 {
-    let fours = 4_294_967_296 * (low as u64) + high as u64;
+    x / 72_057_594_037_927_936 % 256
+        + 256 * (x / 281_474_976_710_656 % 256)
+        + 65_536 * (x / 1_099_511_627_776 % 256)
+        + 16_777_216 * (x / 4_294_967_296 % 256)
+        + 4_294_967_296 * (x / 16_777_216 % 256)
+        + 1_099_511_627_776 * (x / 65_536 % 256)
+        + 281_474_976_710_656 * (x / 256 % 256)
+        + 72_057_594_037_927_936 * (x % 256)
+}
+
+// Writes a number below 100,000,000 in eight digits, all at once: its first four digits and its last stand in the halves of a
+// word, then the four pairs in its quarters, then the digits in its bytes, the last digit lowest. `* 5_243 / 524_288` is `/ 100`
+// in each half, and `* 103 / 1_024` is `/ 10` in each quarter; the factors that put the quotients in place are 2^32 - 10,000,
+// 2^16 - 100 and 2^8 - 10.
+fn put_digits(n: u32, out: &mut [u8], at: usize)
+    requires below { ⌜ n < 100_000_000 ⌝ }
+    requires room { ⌜ at + 8 ≤ length (now out) ⌝ }
+    ensures { λ _. ⌜ now (out .exit) ≡ sets (now (out .entry)) at (fourOf (n / 10_000) ++ fourOf (n % 10_000)) ⌝ }
+{
+    let fours = n as u64 + 4_294_957_296 * (n / 10_000) as u64;
     let hundreds = (fours * 5_243 / 524_288) & 0x7f_0000_007f;
-    let pairs = 65_536 * fours - 6_553_599 * hundreds;
+    let pairs = fours + 65_436 * hundreds;
     let tens = (pairs * 103 / 1_024) & 0xf_000f_000f_000f;
-    let digits = 256 * pairs - 2_559 * tens;
-    put_bytes(digits + 0x3030_3030_3030_3030, out, at);
+    let digits = pairs + 246 * tens;
+    put_bytes(reversed(digits) + 0x3030_3030_3030_3030, out, at);
 }
 
 // One or two digits.
@@ -118,7 +133,7 @@ fn put_eight(n: u32, out: &mut [u8], at: usize) -> usize
     ensures bytes { λ _. ⌜ now (out .exit) ≡ sets (now (out .entry)) at (32 ∷ decimal n) ⌝ }
 {
     let end = at + (9 - below(n, 10_000_000));
-    put_fours(n / 10_000, n % 10_000, out, end - 8);
+    put_digits(n, out, end - 8);
     out[at] = BLANK;
     end
 }
@@ -132,7 +147,7 @@ fn put_ten(n: u32, out: &mut [u8], at: usize) -> usize
 {
     let end = at + (11 - below(n, 1_000_000_000));
     put_pair(n / 100_000_000, out, end - 10);
-    put_fours(n / 10_000 % 10_000, n % 10_000, out, end - 8);
+    put_digits(n % 100_000_000, out, end - 8);
     out[at] = BLANK;
     end
 }

@@ -20,11 +20,11 @@ sub-end c = omega (arith, below-most (c .below .ensures))
 add-end : tie.Need-add-end
 add-end c = search needs
 
-sub-put-fours : tie.Need-sub-put-fours
-sub-put-fours c = omega (arith, below-most (c .before .below .ensures))
+sub-put-digits : tie.Need-sub-put-digits
+sub-put-digits c = omega (arith, below-most (c .before .below .ensures))
 
-put-fours-requires : tie.Need-put-fours-requires
-put-fours-requires c κs = search needs
+put-digits-requires : tie.Need-put-digits-requires
+put-digits-requires c κs = search needs
 
 slice-write-out : tie.Need-slice-write-out
 slice-write-out c = search needs
@@ -36,7 +36,7 @@ returns c =
     let most = below-most (below .ensures) in
     let end = start .args .at + (9 - below .result) in
     let place : end - 8 + below .result ≡ suc (start .args .at) = omega arith in
-    let eight = c .before .before .put-fours .ensures in
+    let eight = c .before .before .put-digits .ensures in
     lead-done (lead-eight place (start .args .n) (start .pre .0) (start .pre .1 .0) (below .ensures)) (start .args .out .now) eight (omega arith)
 
 same-length : tie.Need-same-length
@@ -51,8 +51,8 @@ put-eight-spec =
     below-requires
     sub-end
     add-end
-    sub-put-fours
-    put-fours-requires
+    sub-put-digits
+    put-digits-requires
     slice-write-out
     same-length
     returns)

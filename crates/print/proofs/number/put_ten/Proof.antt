@@ -28,11 +28,11 @@ sub-put-pair c = omega (arith, below-most (c .before .below .ensures))
 put-pair-requires : tie.Need-put-pair-requires
 put-pair-requires c κs = search needs
 
-sub-put-fours : tie.Need-sub-put-fours
-sub-put-fours c = omega (arith, below-most (c .before .before .before .before .before .below .ensures))
+sub-put-digits : tie.Need-sub-put-digits
+sub-put-digits c = omega (arith, below-most (c .before .before .before .before .before .below .ensures))
 
-put-fours-requires : tie.Need-put-fours-requires
-put-fours-requires c κs = search needs
+put-digits-requires : tie.Need-put-digits-requires
+put-digits-requires c κs = search needs
 
 slice-write-out : tie.Need-slice-write-out
 slice-write-out c = search needs
@@ -49,8 +49,8 @@ returns c =
     let first = c .before .before .before .before .before .before .put-pair .ensures in
     let one = put-more (put-none (end - 10) (start .args .out .now)) (pairOf (n / 100_000_000)) first one-behind in
     let two-behind : end ≡ end - 8 + 8 = omega arith in
-    let eight = c .before .before .put-fours .ensures in
-    let two = put-more one (fourOf (n / 10_000 % 10_000) ++ fourOf (n % 10_000)) eight two-behind in
+    let eight = c .before .before .put-digits .ensures in
+    let two = put-more one (fourOf (n % 100_000_000 / 10_000) ++ fourOf (n % 100_000_000 % 10_000)) eight two-behind in
     lead-done (lead-ten place n (start .pre .0) (omega (arith, start .fits .n)) (below .ensures)) (start .args .out .now) (two .holds) (two .place)
 
 same-length : tie.Need-same-length
@@ -67,8 +67,8 @@ put-ten-spec =
     add-end
     sub-put-pair
     put-pair-requires
-    sub-put-fours
-    put-fours-requires
+    sub-put-digits
+    put-digits-requires
     slice-write-out
     same-length
     returns)
