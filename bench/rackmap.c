@@ -57,16 +57,16 @@ static inline void put_pair(char *to, uint32_t pair)
 	memcpy(to, pairs + 2 * pair, 2);
 }
 
-/* Writes two numbers below 10,000 in four digits each, all at once: the numbers stand in the
- * halves of a word, hundreds and what is over in its quarters, the digits in its bytes. */
-static inline void put_fours(char *to, uint32_t high, uint32_t low)
+/* Writes a number below 100,000,000 in eight digits, all at once: its first four and its last
+ * four stand in the halves of a word, then the pairs in its quarters, then the digits in its
+ * bytes, the last one lowest. */
+static inline void put_digits(char *to, uint32_t value)
 {
-	uint64_t fours = high + ((uint64_t)low << 32);
-	uint64_t hundreds = (fours * 5243 >> 19) & UINT64_C(0x7f0000007f);
-	uint64_t pairs = (fours << 16) - 6553599 * hundreds;
-	uint64_t tens = (pairs * 103 >> 10) & UINT64_C(0xf000f000f000f);
-	uint64_t digits = (pairs << 8) - 2559 * tens + UINT64_C(0x3030303030303030);
+	uint64_t fours = value + UINT64_C(4294957296) * (value / 10000);
+	uint64_t pairs = fours + 65436 * ((fours * 5243 >> 19) & UINT64_C(0x7f0000007f));
+	uint64_t digits = pairs + 246 * ((pairs * 103 >> 10) & UINT64_C(0xf000f000f000f));
 
+	digits = __builtin_bswap64(digits) + UINT64_C(0x3030303030303030);
 	memcpy(to, &digits, sizeof digits);
 }
 
@@ -79,10 +79,10 @@ static inline char *put_number(char *to, uint32_t value)
 	if (value >= 100000000) {
 		end = to + 11 - (value < 1000000000);
 		put_pair(end - 10, value / 100000000);
-		put_fours(end - 8, value / 10000 % 10000, value % 10000);
+		put_digits(end - 8, value % 100000000);
 	} else if (value >= 1000000) {
 		end = to + 9 - (value < 10000000);
-		put_fours(end - 8, value / 10000, value % 10000);
+		put_digits(end - 8, value);
 	} else if (value >= 10000) {
 		end = to + 7 - (value < 100000);
 		put_pair(end - 6, value / 10000);
