@@ -1,5 +1,5 @@
 -- What blocks gain, and the pieces of the blocks from j on. Assumes nothing.
-use Prim.Native.Nat.{ℕ, suc, _+_, _-_, _≤_, _<_}
+use Prim.Native.Nat.{ℕ, suc, _+_, _-_, _≤_, _<_, min}
 use mathlib.Core.Path.{_≡_, sym, _∙_, ap}
 use mathlib.Core.Bool.{Bool, false}
 use mathlib.Core.Logic.{⊎-elim}
@@ -12,13 +12,18 @@ use Rattle.model.specs.Limits.{maxBlocks}
 use Rattle.model.specs.Table.{Shape, interval, Table, Arrays, arrays, table, sizes}
 use Rattle.model.specs.Expansion.{newTops, has, dueAfter, gain, pieces}
 use Rattle.model.specs.declared.table.Header.{Header}
+use Rattle.model.proofs.Counts.{below-or}
 use Rattle.model.proofs.Listed.{equal-or}
-use Rattle.model.proofs.Wells.{Well, sound-well}
-use Rattle.model.proofs.Growths.{Accepted, accepted, block-limits, none-falls}
+use Rattle.model.proofs.Wells.{Well, sound-well, tops-length}
+use Rattle.model.proofs.Growths.{Accepted, accepted, length-either, block-limits, none-falls}
 use Rattle.model.proofs.Filled.{lastOf, pieces-last, pieces-none, pieces-one}
 use Rattle.model.proofs.Steps.{pieces-length, has-most, last-lent}
 use Rattle.expansion_count.specs.Given.{Drains, Grows, Fills, Shares, NoneFalls}
 use Rattle.expansion_count.specs.Made.{pieceOf}
+
+-- what is not 0 counts as 1
+pub some-gained : (n : ℕ) → (n ≡ 0 → ⊥) → min 1 n ≡ 1
+some-gained n z = ⊎-elim (λ l. omega arith) (λ l. absurd (z (omega arith))) (below-or 0 n)
 
 module _ (t : Table) (s : Shape) (j : ℕ) where
   -- the last interval's block has no piece, and the others have what they gain
@@ -66,10 +71,10 @@ module _ (t : Table) (s : Shape) (j : ℕ) where
 
   -- how many pieces there are
   module _ (g : ℕ) (l : j < g) where
-    pub count-skip : pieceOf t s j ≡ 0 → length (pieces t s 0 j (g - j)) ≡ length (pieces t s 0 (j + 1) (g - (j + 1)))
+    count-skip : pieceOf t s j ≡ 0 → length (pieces t s 0 j (g - j)) ≡ length (pieces t s 0 (j + 1) (g - (j + 1)))
     count-skip z = ap length (pieces-skip 0 g l z)
 
-    pub count-take
+    count-take
         : (pieceOf t s j ≡ 0 → ⊥) → length (pieces t s 0 j (g - j)) ≡ suc (length (pieces t s 0 (j + 1) (g - (j + 1))))
     count-take n =
         ap length (pieces-take 0 g l n) ∙ ap suc (pieces-length t s (g - (j + 1)) (j + 1) (0 + pieceOf t s j) 0)
@@ -93,6 +98,16 @@ module _ (h : Header) (a : Arrays) (s : Shape) (olds dues : List ℕ) (f : Fills
   -- there are at most 65 blocks
   pub blocks-few : (n : ℕ) → n ≡ length (newTops (table h a) s) → n ≤ maxBlocks
   blocks-few n e = omega (arith, block-limits (table h a) s fills-well fills-asked)
+
+  -- the last interval's block is one of them
+  pub last-below : (n : ℕ) → n ≡ length (newTops (table h a) s) → getD (a .blocks) (h .«interval_count» - 1) 0 < n
+  last-below n e =
+      let some = f .sound .someIntervals in
+      let own = f .sound .blocksBelow (h .«interval_count» - 1) (omega arith) in
+      ⊎-elim
+      (λ l. omega (arith, l .1, tops-length h a (f .sound)))
+      (λ l. omega (arith, l .1, tops-length h a (f .sound)))
+      (length-either (table h a) s fills-well fills-asked)
 
   -- no block has more than the buckets up to where the pieces have come to
   pub had-below : (j at : ℕ) → j < maxBlocks → h .buckets ≤ at → getD olds j 0 ≤ at
@@ -136,3 +151,22 @@ module _ {t : Table} {s : Shape} {last : ℕ} {olds dues : List ℕ} (shares : S
   piece-gained l n =
       piece-other t s j (λ e. n (e ∙ sym (shares .own)))
       ∙ omega (arith, shares .before j l, shares .after j l)
+
+  -- so the pieces from it on are those behind it, and one more if it gains and is not the last interval's block
+  module _ (g : ℕ) (l : j < g) (few : g ≤ maxBlocks) where
+    abbrev from-here : ℕ
+    from-here = length (pieces t s 0 j (g - j))
+
+    abbrev behind : ℕ
+    behind = length (pieces t s 0 (j + 1) (g - (j + 1)))
+
+    pub count-last : j ≡ last → from-here ≡ behind
+    count-last e = count-skip t s j g l (piece-last e)
+
+    pub count-other : (j ≡ last → ⊥) → from-here ≡ behind + min 1 (getD dues j 0 - getD olds j 0)
+    count-other n =
+        let gained = piece-gained (omega arith) n in
+        ⊎-elim
+        (λ z. omega (arith, count-skip t s j g l (gained ∙ z)))
+        (λ z. omega (arith, count-take t s j g l (λ e. z (sym gained ∙ e)), some-gained _ z))
+        (equal-or (getD dues j 0 - getD olds j 0) 0)

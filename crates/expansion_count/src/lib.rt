@@ -92,25 +92,29 @@ pub fn piece(last: u32, olds: &[u32; BLOCKS], dues: &[u32; BLOCKS], j: usize) ->
     dues[j] - olds[j]
 }
 
-// No old block is due less: one pass over the blocks, of which there are `count` after the growth.
+// No old block is due less: one pass over the blocks, of which there are `count` after the growth. Each that gains has a piece, but
+// `last`, the last interval's block.
 fn count_pieces(last: u32, olds: &[u32; BLOCKS], dues: &[u32; BLOCKS], count: u32) -> u32
-    requires { ⌜ (count ≤ 65) × NoneFalls (now olds) (now dues) ⌝ }
+    requires { ⌜ (last < count) × (count ≤ 65) × NoneFalls (now olds) (now dues) ⌝ }
     ensures few { λ r. ⌜ r ≤ 65 ⌝ }
     ensures counted { λ r.
         ⌜
         ((t : Table) (s : Shape) (c : ℕ) → Shares t s last (now (olds .entry)) (now (dues .entry)) → r ≡ length (piecesOf t s c 0 count))
         ⌝ }
 {
-    let mut pieces: u32 = 0;
+    let mut gaining: u32 = 0;
     let mut j: usize = 0;
     while j < count as usize {
-        let gained = piece(last, olds, dues, j);
+        let gained = dues[j] - olds[j];
         j += 1;
         if gained != 0 {
-            pieces += 1;
+            gaining += 1;
         }
     }
-    pieces
+    if dues[last as usize] != olds[last as usize] {
+        return gaining - 1;
+    }
+    gaining
 }
 
 // The counting pass: how many intervals the growth's table needs. `olds` and `dues` are what each block has, and is due after the

@@ -5,7 +5,7 @@ use Rattle.model.specs.Table.{sizes}
 use Rattle.model.specs.Expansion.{lengthTo}
 use Rattle.model.specs.Lent.{lent}
 use Rattle.model.proofs.Steps.{drained-count, filled-count}
-use Rattle.expansion_count.proofs.Pieces.{grows-drains, grows-fills, blocks-few, fills-rise, fills-shares}
+use Rattle.expansion_count.proofs.Pieces.{grows-drains, grows-fills, last-below, blocks-few, fills-rise, fills-shares}
 use borrow.Author.Needs.{needs}
 use Rattle.expansion_count.proofs.measure.Statement.{statement}
 use Rattle.expansion_count.proofs.measure.Tie as tie
@@ -36,7 +36,7 @@ count-pieces-requires : tie.Need-count-pieces-requires
 count-pieces-requires c κs =
     let given = c .before .before .before .before .before .before .pre .holds in
     let fills = grows-fills given (c .before .before .if1 .left) in
-    (blocks-few _ _ _ _ _ fills _ (given .counted), fills-rise _ _ _ _ _ fills)
+    (last-below _ _ _ _ _ fills _ (given .counted), blocks-few _ _ _ _ _ fills _ (given .counted), fills-rise _ _ _ _ _ fills)
 
 add-result : tie.Need-add-result
 add-result c = search needs
