@@ -8,7 +8,7 @@ use lib.ListN.{length}
 use borrow.Author.Tests.{lt-ltb, le-ltb}
 use Rattle.model.specs.Basics.{if_then_else_}
 use Rattle.model.specs.Table.{Shape, Arrays, arrays, table, header, over, written}
-use Rattle.model.specs.Refusal.{Test, first, roomShort}
+use Rattle.model.specs.Refusal.{Test, first, headerOutside, arraysShort, roomShort}
 use Rattle.model.specs.Search.{placeAt}
 use Rattle.model.specs.Sound.{Sound}
 use Rattle.model.specs.Initial.{initial}
@@ -21,8 +21,14 @@ use Rattle.model.specs.declared.table.Header.{Header}
 use Rattle.model.proofs.Refusals.{first-here, first-skip, first-found, first-after, accepted, refused}
 use Rattle.file.specs.Loading.{loadedOver}
 use Rattle.model.proofs.Bytes.{saved-same}
+use Rattle.model.proofs.Loads.{or-second}
 use Rattle.model.proofs.Soundness.{sound-iff, table-numbered}
 use Rattle.model.proofs.Searches.{place-answered}
+
+-- a lent array that is too short is refused by the first test
+pub short-refused : (h : Header) (a : Arrays) → arraysShort h a ≡ true → 11 ≡ first (tableTests h a)
+unfolding tableTests
+short-refused h a e = sym (first-here _ _ (or-second (headerOutside h) (arraysShort h a) e))
 
 module _ (h : Header) (a : Arrays) (r : ℕ) (e : r ≡ first (tableTests h a)) where
   -- a table that the check passes is sound

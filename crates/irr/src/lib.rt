@@ -198,6 +198,14 @@ pub fn bin_size(
 ) -> BinSizeReply
     ensures { λ r. ⌜ r ≡ binSizeReply header (given tops ends blocks adjustments) bin ⌝ }
 {
+    // The check asks this too. Asked here, the compiler takes each length by itself: a pointer and a length that it copies at once,
+    // since nothing else here reads them, wait for the caller's stores of the two.
+    if soundness::arrays_short(header, tops, ends, blocks, adjustments) {
+        return BinSizeReply {
+            refusal: 11,
+            buckets: 0,
+        };
+    }
     let refusal = soundness::check(header, tops, ends, blocks, adjustments);
     if refusal != 0 {
         return BinSizeReply {

@@ -62,7 +62,7 @@ module _ (h : Header) (a : Arrays) where
       (over (column (λ v. v .adjustment) (a .adjustments) (λ i. refl) c i) (old .adjustments))
 
 -- a file of fewer than 12 bytes is shorter than any saved map
-or-second : (a b : Bool) → b ≡ true → a or b ≡ true
+pub or-second : (a b : Bool) → b ≡ true → a or b ≡ true
 unfolding _or_
 or-second true b h = refl
 or-second false b h = h

@@ -56,7 +56,13 @@ pub fn header_outside(h: Header) -> bool
 }
 
 // 11: a lent array shorter than its count.
-fn arrays_short(h: Header, tops: &[u32], ends: &[u32], blocks: &[u32], adjustments: &[u32]) -> bool
+pub fn arrays_short(
+    h: Header,
+    tops: &[u32],
+    ends: &[u32],
+    blocks: &[u32],
+    adjustments: &[u32],
+) -> bool
     ensures { λ r. ⌜ r ≡ arraysShort h (given tops ends blocks adjustments) ⌝ }
 {
     let intervals = h.interval_count as usize;
