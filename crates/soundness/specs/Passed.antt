@@ -1,9 +1,12 @@
 -- What earlier rules of the check have shown of a lent table, for the functions of the later ones. Assumes nothing.
-use Prim.Native.Nat.{ℕ, _≤_, _<_}
+use Prim.Native.Nat.{ℕ, _+_, _≤_, _<_}
 use mathlib.Core.Path.{_≡_}
+use mathlib.Core.Bool.{Bool, false}
 use mathlib.Core.List.{List, [], _∷_, _++_}
+use lib.Bits.{bitOr}
+use lib.Dec.{eqb}
 use lib.ListN.{length, getD}
-use Rattle.model.specs.Basics.{from, before}
+use Rattle.model.specs.Basics.{from, before, all}
 use Rattle.model.specs.Limits.{maxBlocks}
 use Rattle.model.specs.Table.{Arrays, arrays, table, over}
 use Rattle.model.specs.Place.{held}
@@ -52,6 +55,30 @@ pub record IntervalsRight (h : Header) (ends blocks : List ℕ) : Type 0 where
 -- cell j of `sums` has the number of buckets that block j holds
 pub record Held (h : Header) (ends blocks sums : List ℕ) : Type 0 where
   pub cell : (j : ℕ) → j < maxBlocks → getD sums j 0 ≡ held (table h (arrays [] ends blocks [])) j (h .buckets)
+
+-- whether the adjustment of interval i is right
+unfoldable pub adjusted : Header → Arrays → ℕ → Bool
+adjusted h a i = eqb (getD (a .adjustments) i 0) (adjustmentOf h a i)
+
+-- the first i intervals walked, which end at `start`: `bad` is 0 where each adjustment is right, and then cell j of `sums` has the
+-- number of their buckets that block j holds
+pub record Walked (h : Header) (a : Arrays) (i start : ℕ) (sums : List ℕ) (bad : ℕ) : Type 0 where
+  pub starts : start ≡ before (a .ends) i
+  pub cells : length sums ≡ maxBlocks
+  pub right : eqb bad 0 ≡ all (adjusted h a) i
+  pub cell : bad ≡ 0 → (j : ℕ) → j < maxBlocks → getD sums j 0 ≡ held (table h a) j start
+
+-- all of them walked: rule 16, and where it is not broken what each block holds
+pub record Walks (h : Header) (ends blocks adjustments : List ℕ) (r : Bool) (sums : List ℕ) : Type 0 where
+  pub answer : r ≡ adjustmentsWrong h (arrays [] ends blocks adjustments)
+  pub holds : r ≡ false → Held h ends blocks sums
+
+-- interval i met: whatever table it is of, it is walked after those before it
+abbrev pub Meets : List ℕ → List ℕ → List ℕ → ℕ → ℕ → List ℕ → ℕ → List ℕ → Type 0
+Meets ends blocks adjustments i start sums r sums′ =
+    (h : Header) → IntervalsRight h ends blocks → i < h .«interval_count» → (bad : ℕ)
+    → Walked h (arrays [] ends blocks adjustments) i start sums bad
+    → Walked h (arrays [] ends blocks adjustments) (i + 1) (getD ends i 0) sums′ (bitOr bad r)
 
 -- what rules 12 to 15 say of arrays without adjustments; where they pass, `left` has the adjustments over the first of `old`
 pub record Completed (h : Header) (tops ends blocks old : List ℕ) (r : ℕ) (left : List ℕ) : Type 0 where

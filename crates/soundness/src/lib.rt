@@ -10,8 +10,8 @@ use table::due_below;
 ghost use mathlib.Core.Path.{_≡_};
 ghost use mathlib.Core.Bool.{true, false};
 ghost use mathlib.Core.List.{List, [], _∷_};
-ghost use Prim.Native.Nat.{ℕ, _≤_};
-ghost use lib.ListN.{length, replicate};
+ghost use Prim.Native.Nat.{ℕ, _≤_, _<_};
+ghost use lib.ListN.{length, getD, replicate};
 ghost use Rattle.model.specs.Lent.{given};
 ghost use Rattle.model.specs.Basics.{from};
 ghost use Rattle.model.specs.Limits.{maxBlocks};
@@ -30,7 +30,7 @@ ghost use Rattle.model.specs.Refusal.{
   first,
 };
 ghost use Rattle.model.specs.Calls.{tableTests};
-ghost use Rattle.soundness.specs.Passed.{Counted, layoutTests, ruleTests, alone, TopsRight, IntervalsRight, Held, Completed};
+ghost use Rattle.soundness.specs.Passed.{Counted, layoutTests, ruleTests, alone, TopsRight, IntervalsRight, Held, Walked, Walks, Meets, Completed};
 
 // Whether x is 0 or above its limit.
 fn is_outside(limit: u32, x: u32) -> bool
@@ -154,9 +154,57 @@ fn layout_refusal(h: Header, tops: &[u32], ends: &[u32], blocks: &[u32]) -> u32
     0
 }
 
-// Walks the intervals once, and says whether the table breaks 16: a wrong adjustment. Where it does not, `sums` is what
-// each block holds. Where an interval's adjustment is right, its block holds before it its start less its adjustment, and
-// then its end less its adjustment: so no turn waits for the sum of the turn before it.
+// Meets interval i, which begins at `start`, in the walk of rule 16. Where its adjustment is right, its block holds before it
+// its start less its adjustment, and then its end less its adjustment: so no turn of the walk waits for the sum of the turn
+// before it. The answer is 0 where the block holds what it is to hold.
+fn met(
+    ends: &[u32],
+    blocks: &[u32],
+    adjustments: &[u32],
+    i: usize,
+    start: u32,
+    sums: &mut [u32; BLOCKS],
+) -> u32
+    requires { ⌜
+        (i < length (now ends)) × (i < length (now blocks)) × (i < length (now adjustments)) × (getD (now blocks) i 0 < maxBlocks)
+        ⌝ }
+    ensures { λ r.
+        ⌜ Meets (now (ends .entry)) (now (blocks .entry)) (now (adjustments .entry)) i start (now (sums .entry)) r (now (sums .exit)) ⌝ }
+{
+    let block = blocks[i] as usize;
+    let adjustment = adjustments[i];
+    let right = wrapping_sub_u32(start, adjustment);
+    let then = wrapping_sub_u32(ends[i], adjustment);
+    let difference = sums[block] ^ right;
+    sums[block] = then;
+    difference
+}
+
+// Walks the intervals from i on, and says whether the table breaks 16: a wrong adjustment. Where it does not, `sums` is what
+// each block holds.
+fn walked_from(
+    h: Header,
+    ends: &[u32],
+    blocks: &[u32],
+    adjustments: &[u32],
+    mut i: usize,
+    mut start: u32,
+    mut bad: u32,
+    sums: &mut [u32; BLOCKS],
+) -> bool
+    requires { ⌜ (IntervalsRight h (now ends) (now blocks)) × (h .«interval_count» ≤ length (now adjustments)) ⌝ }
+    requires { ⌜ (i ≤ h .«interval_count») × Walked h (arrays [] (now ends) (now blocks) (now adjustments)) i start (now sums) bad ⌝ }
+    ensures { λ r. ⌜ Walks h (now (ends .entry)) (now (blocks .entry)) (now (adjustments .entry)) r (now (sums .exit)) ⌝ }
+{
+    while i < h.interval_count as usize {
+        bad = bad | met(ends, blocks, adjustments, i, start, sums);
+        start = ends[i];
+        i += 1;
+    }
+    bad != 0
+}
+
+// Walks all intervals, four a turn as long as there are four: their loads and stores then overlap.
 fn walked(
     h: Header,
     ends: &[u32],
@@ -167,27 +215,20 @@ fn walked(
     requires { ⌜
         (IntervalsRight h (now ends) (now blocks)) × (h .«interval_count» ≤ length (now adjustments)) × (now sums ≡ replicate maxBlocks 0)
         ⌝ }
-    ensures { λ r.
-        ⌜
-        (r ≡ adjustmentsWrong h (arrays [] (now (ends .entry)) (now (blocks .entry)) (now (adjustments .entry)))) ×
-        (r ≡ false → Held h (now (ends .entry)) (now (blocks .entry)) (now (sums .exit)))
-        ⌝ }
+    ensures { λ r. ⌜ Walks h (now (ends .entry)) (now (blocks .entry)) (now (adjustments .entry)) r (now (sums .exit)) ⌝ }
 {
     let mut bad: u32 = 0;
     let mut start: u32 = 0;
     let mut i: usize = 0;
-    while i < h.interval_count as usize {
-        let end = ends[i];
-        let block = blocks[i] as usize;
-        let adjustment = adjustments[i];
-        let right = wrapping_sub_u32(start, adjustment);
-        let then = wrapping_sub_u32(end, adjustment);
-        bad = bad | (sums[block] ^ right);
-        sums[block] = then;
-        start = end;
-        i += 1;
+    while i + 3 < h.interval_count as usize {
+        bad = bad | met(ends, blocks, adjustments, i, start, sums);
+        bad = bad | met(ends, blocks, adjustments, i + 1, ends[i], sums);
+        bad = bad | met(ends, blocks, adjustments, i + 2, ends[i + 1], sums);
+        bad = bad | met(ends, blocks, adjustments, i + 3, ends[i + 2], sums);
+        start = ends[i + 3];
+        i += 4;
     }
-    bad != 0
+    walked_from(h, ends, blocks, adjustments, i, start, bad, sums)
 }
 
 // How many buckets each block holds, by sums.
@@ -285,7 +326,7 @@ pub fn judged_alone(
         return broken;
     }
     let mut sums = [0u32; BLOCKS];
-    if walked(h, ends, blocks, adjustments, &mut sums) {
+    if walked_from(h, ends, blocks, adjustments, 0, 0, 0, &mut sums) {
         return adjustment_refusal(h, tops, ends, blocks);
     }
     if holdings_wrong(h, tops, &sums) {

@@ -43,7 +43,7 @@ adjustment-refusal-requires c κs = (tops-done (passed (c .before)), intervals-d
 returns-2 : tie.Need-returns-2
 returns-2 c =
     let walk = c .before .before in
-    judged-adjustments _ _ _ _ _ (clear (passed walk)) _ (walk .walked .ensures .0) (c .before .if2 .taken) _ (c .adjustment-refusal .ensures)
+    judged-adjustments _ _ _ _ _ (clear (passed walk)) _ (walk .walked .ensures .answer) (c .before .if2 .taken) _ (c .adjustment-refusal .ensures)
 
 holdings-wrong-requires : tie.Need-holdings-wrong-requires
 holdings-wrong-requires c κs = tops-done (passed (c .before .before))
@@ -56,15 +56,15 @@ returns-3 : tie.Need-returns-3
 returns-3 c =
     let k = c .before in
     let w = walk k .walked .ensures in
-    judged-holdings _ _ _ _ _ (clear (passed (walk k))) _ (w .0) _
-    (k .holdings-wrong .ensures _ _ (w .1 (k .before .before .if2 .left))) (c .if3 .taken)
+    judged-holdings _ _ _ _ _ (clear (passed (walk k))) _ (w .answer) _
+    (k .holdings-wrong .ensures _ _ (w .holds (k .before .before .if2 .left))) (c .if3 .taken)
 
 returns-4 : tie.Need-returns-4
 returns-4 c =
     let k = c .before in
     let w = walk k .walked .ensures in
-    judged-sound _ _ _ _ _ (clear (passed (walk k))) _ (w .0) _
-    (k .holdings-wrong .ensures _ _ (w .1 (k .before .before .if2 .left))) (k .before .before .if2 .left) (c .if3 .left)
+    judged-sound _ _ _ _ _ (clear (passed (walk k))) _ (w .answer) _
+    (k .holdings-wrong .ensures _ _ (w .holds (k .before .before .if2 .left))) (k .before .before .if2 .left) (c .if3 .left)
 
 pub judged-spec : {M : Type 1} → statement M
 judged-spec =

@@ -1,10 +1,12 @@
 -- `soundness::judged_alone` meets its contract: each return from the tests on the way to it, and each rule's function is called with
 -- what the rules before it have shown. Assumes nothing.
-use mathlib.Core.Path.{_≡_, refl, sym, _∙_}
+use mathlib.Core.Path.{_≡_, sym, _∙_}
+use native.Mathlib.Omega.{arith}
 use borrow.Author.Needs.{needs}
 use Rattle.model.specs.Refusal.{first}
 use Rattle.soundness.specs.Passed.{layoutTests, alone, TopsRight, IntervalsRight}
 use Rattle.soundness.proofs.Passed.{laid, tops-right, intervals-right}
+use Rattle.soundness.proofs.Walk.{walked-none}
 use Rattle.soundness.proofs.Answers.{judged-layout, judged-adjustments, judged-holdings, judged-sound}
 use Rattle.soundness.proofs.judged_alone.Statement.{statement}
 use Rattle.soundness.proofs.judged_alone.Tie as tie
@@ -31,11 +33,11 @@ intervals-done : (c : tie.Else1) → IntervalsRight (alone (entry c .args .bucke
 intervals-done c = intervals-right _ _ _ _ (entry c .pre .0) (laid _ _ _ _ (clear c))
 
 -- the walk has been made
-abbrev passed : tie.After-walked → tie.Else1
+abbrev passed : tie.After-walked-from → tie.Else1
 passed c = c .before .before
 
-walked-requires : tie.Need-walked-requires
-walked-requires c κs = (intervals-done (c .before), entry (c .before) .pre .1, refl)
+walked-from-requires : tie.Need-walked-from-requires
+walked-from-requires c κs = ((intervals-done (c .before), entry (c .before) .pre .1), (omega arith, walked-none _ _))
 
 adjustment-refusal-requires : tie.Need-adjustment-refusal-requires
 adjustment-refusal-requires c κs = (tops-done (passed (c .before)), intervals-done (passed (c .before)))
@@ -43,28 +45,28 @@ adjustment-refusal-requires c κs = (tops-done (passed (c .before)), intervals-d
 returns-2 : tie.Need-returns-2
 returns-2 c =
     let walk = c .before .before in
-    judged-adjustments _ _ _ _ _ (clear (passed walk)) _ (walk .walked .ensures .0) (c .before .if2 .taken) _ (c .adjustment-refusal .ensures)
+    judged-adjustments _ _ _ _ _ (clear (passed walk)) _ (walk .walked-from .ensures .answer) (c .before .if2 .taken) _ (c .adjustment-refusal .ensures)
 
 holdings-wrong-requires : tie.Need-holdings-wrong-requires
 holdings-wrong-requires c κs = tops-done (passed (c .before .before))
 
 -- what the test of 15 says
-abbrev walk : tie.After-holdings-wrong → tie.After-walked
+abbrev walk : tie.After-holdings-wrong → tie.After-walked-from
 walk c = c .before .before .before
 
 returns-3 : tie.Need-returns-3
 returns-3 c =
     let k = c .before in
-    let w = walk k .walked .ensures in
-    judged-holdings _ _ _ _ _ (clear (passed (walk k))) _ (w .0) _
-    (k .holdings-wrong .ensures _ _ (w .1 (k .before .before .if2 .left))) (c .if3 .taken)
+    let w = walk k .walked-from .ensures in
+    judged-holdings _ _ _ _ _ (clear (passed (walk k))) _ (w .answer) _
+    (k .holdings-wrong .ensures _ _ (w .holds (k .before .before .if2 .left))) (c .if3 .taken)
 
 returns-4 : tie.Need-returns-4
 returns-4 c =
     let k = c .before in
-    let w = walk k .walked .ensures in
-    judged-sound _ _ _ _ _ (clear (passed (walk k))) _ (w .0) _
-    (k .holdings-wrong .ensures _ _ (w .1 (k .before .before .if2 .left))) (k .before .before .if2 .left) (c .if3 .left)
+    let w = walk k .walked-from .ensures in
+    judged-sound _ _ _ _ _ (clear (passed (walk k))) _ (w .answer) _
+    (k .holdings-wrong .ensures _ _ (w .holds (k .before .before .if2 .left))) (k .before .before .if2 .left) (c .if3 .left)
 
 pub judged-alone-spec : {M : Type 1} → statement M
 judged-alone-spec =
@@ -72,7 +74,7 @@ judged-alone-spec =
     (tie.spec
     layout-refusal-requires
     returns
-    walked-requires
+    walked-from-requires
     adjustment-refusal-requires
     returns-2
     holdings-wrong-requires

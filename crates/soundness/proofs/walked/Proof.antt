@@ -1,21 +1,12 @@
--- `soundness::walked` meets its contract. The loop's invariant: as Walk says. Assumes nothing.
-use Prim.Native.Nat.{_≤_, _<_, _-_}
-use mathlib.Core.Path.{_≡_, _∙_, ap}
+-- `soundness::walked` meets its contract. The loop's invariant: the first i intervals are walked. Assumes nothing.
+use Prim.Native.Nat.{_+_, _≤_, _-_}
 use mathlib.Core.List.{[]}
 use native.Mathlib.Omega.{arith}
-use lib.ListN.{getD}
-use Rattle.model.specs.Basics.{before}
-use Rattle.model.specs.Limits.{maxBlocks}
 use Rattle.model.specs.Table.{arrays}
-use Rattle.model.specs.Place.{held}
-use Rattle.model.specs.Refusal.{adjustmentsWrong}
-use Rattle.model.proofs.Holdings.{held-same}
-use Rattle.soundness.proofs.Walk.{Walked, walked-none, walked-more, walked-flag, walked-sums}
+use Rattle.soundness.specs.Passed.{Walked}
+use Rattle.soundness.proofs.Walk.{within, walked-none, walked-at}
 use Rattle.soundness.proofs.walked.Statement.{statement}
 use Rattle.soundness.proofs.walked.Tie as tie
-use Rattle.soundness.proofs.walked.Reads as reads
-use Rattle.soundness.proofs.walked.Lts as lts
-use Rattle.std.proofs.num.wrapping_sub_u32.Reads as wrapping-sub-u32-reads
 
 abbrev Inv-loop : tie.InvT-loop
 Inv-loop h ends blocks adjustments sums₀ bad₀ start₀ i₀ sums bad start i =
@@ -27,59 +18,78 @@ abbrev μ-loop : tie.MeasureT-loop
 loop-holds : tie.Need-loop-holds Inv-loop μ-loop
 loop-holds c = (omega arith, rw (c .before .before .before .pre .2) (walked-none _ _))
 
+add-if1 : tie.Need-add-if1 Inv-loop μ-loop
+add-if1 c = omega arith
+
 cast-if1 : tie.Need-cast-if1 Inv-loop μ-loop
 cast-if1 c = omega arith
 
-mul-end : tie.Need-mul-end Inv-loop μ-loop
-mul-end c = omega arith
+-- a turn: its beginning, from before each of its four calls, and the function's entry
+abbrev second : tie.After-met-arg2 Inv-loop μ-loop → tie.Then1 Inv-loop μ-loop
+second c = c .before .before .before .before
 
-shared-slice-read-end : tie.Need-shared-slice-read-end Inv-loop μ-loop
-shared-slice-read-end c = omega arith
+abbrev third : tie.After-met-arg3 Inv-loop μ-loop → tie.Then1 Inv-loop μ-loop
+third c = second (c .before .before .before)
 
-mul-block : tie.Need-mul-block Inv-loop μ-loop
-mul-block c = omega arith
+abbrev fourth : tie.After-met-arg4 Inv-loop μ-loop → tie.Then1 Inv-loop μ-loop
+fourth c = third (c .before .before .before)
 
-shared-slice-read-block : tie.Need-shared-slice-read-block Inv-loop μ-loop
-shared-slice-read-block c = omega arith
-
--- the function's entry and the loop's head, from inside a turn
 abbrev entry : tie.Then1 Inv-loop μ-loop → tie.Start Inv-loop μ-loop
 entry c = c .before .before .before .before .before .before
 
-below
-    : (c : tie.Then1 Inv-loop μ-loop) → getD (entry c .args .blocks .now) (c .before .before .loop .i) 0 < maxBlocks
-below c = entry c .pre .0 .blocksBelow (c .before .before .loop .i) (omega arith)
+met-requires : tie.Need-met-requires Inv-loop μ-loop
+met-requires c κs = let pre = entry (c .before) .pre in within _ (pre .0) (pre .1) (omega arith)
 
-cast-block : tie.Need-cast-block Inv-loop μ-loop
-cast-block c = omega (arith, below (c .before .before))
+add-met : tie.Need-add-met Inv-loop μ-loop
+add-met c = omega arith
 
-mul-adjustment : tie.Need-mul-adjustment Inv-loop μ-loop
-mul-adjustment c = omega arith
+mul-met : tie.Need-mul-met Inv-loop μ-loop
+mul-met c = omega arith
 
-shared-slice-read-adjustment : tie.Need-shared-slice-read-adjustment Inv-loop μ-loop
-shared-slice-read-adjustment c = omega arith
+shared-slice-read-met : tie.Need-shared-slice-read-met Inv-loop μ-loop
+shared-slice-read-met c = omega arith
 
-wrapping-sub-u32-requires : tie.Need-wrapping-sub-u32-requires Inv-loop μ-loop
-wrapping-sub-u32-requires c κs = tt
+met-requires-2 : tie.Need-met-requires-2 Inv-loop μ-loop
+met-requires-2 c κs = let pre = entry (second c) .pre in within _ (pre .0) (pre .1) (omega arith)
 
-wrapping-sub-u32-requires-2 : tie.Need-wrapping-sub-u32-requires-2 Inv-loop μ-loop
-wrapping-sub-u32-requires-2 c κs = tt
+add-met-2 : tie.Need-add-met-2 Inv-loop μ-loop
+add-met-2 c = omega arith
 
-mul-bad : tie.Need-mul-bad Inv-loop μ-loop
-mul-bad c = omega (arith, below (c .before .before .before .before .before))
+add-met-3 : tie.Need-add-met-3 Inv-loop μ-loop
+add-met-3 c = omega arith
 
-element-copy-out-bad : tie.Need-element-copy-out-bad Inv-loop μ-loop
-element-copy-out-bad c = omega (arith, below (c .before .before .before .before .before))
+mul-met-2 : tie.Need-mul-met-2 Inv-loop μ-loop
+mul-met-2 c = omega arith
 
--- the turn, from after its store to `bad`
-abbrev inside : tie.After-bad Inv-loop μ-loop → tie.Then1 Inv-loop μ-loop
-inside c = c .before .before .before .before .before .before
+shared-slice-read-met-2 : tie.Need-shared-slice-read-met-2 Inv-loop μ-loop
+shared-slice-read-met-2 c = omega arith
 
-mul-sums : tie.Need-mul-sums Inv-loop μ-loop
-mul-sums c = omega (arith, below (inside c))
+met-requires-3 : tie.Need-met-requires-3 Inv-loop μ-loop
+met-requires-3 c κs = let pre = entry (third c) .pre in within _ (pre .0) (pre .1) (omega arith)
 
-element-write-sums : tie.Need-element-write-sums Inv-loop μ-loop
-element-write-sums c = omega (arith, below (inside c))
+add-met-4 : tie.Need-add-met-4 Inv-loop μ-loop
+add-met-4 c = omega arith
+
+add-met-5 : tie.Need-add-met-5 Inv-loop μ-loop
+add-met-5 c = omega arith
+
+mul-met-3 : tie.Need-mul-met-3 Inv-loop μ-loop
+mul-met-3 c = omega arith
+
+shared-slice-read-met-3 : tie.Need-shared-slice-read-met-3 Inv-loop μ-loop
+shared-slice-read-met-3 c = omega arith
+
+met-requires-4 : tie.Need-met-requires-4 Inv-loop μ-loop
+met-requires-4 c κs = let pre = entry (fourth c) .pre in within _ (pre .0) (pre .1) (omega arith)
+
+add-start : tie.Need-add-start Inv-loop μ-loop
+add-start c = omega arith
+
+mul-start : tie.Need-mul-start Inv-loop μ-loop
+mul-start c = omega arith
+
+shared-slice-read-start : tie.Need-shared-slice-read-start Inv-loop μ-loop
+shared-slice-read-start c = omega arith
 
 add-i : tie.Need-add-i Inv-loop μ-loop
 add-i c = omega arith
@@ -88,32 +98,27 @@ loop-less : tie.Need-loop-less Inv-loop μ-loop
 loop-less c = omega arith
 
 loop-again : tie.Need-loop-again Inv-loop μ-loop
-loop-again c = (
-  omega arith,
-  walked-more _ _ _ _ (entry (inside c) .pre .0) _ _ _ _ (omega arith) _ _
-      (omega (arith, c .before .before .before .shared-slice-known6 .given (inside c .before .before .loop .i)))
-      (omega arith)
-      (omega arith)
-      (c .before .before .wrapping-sub-u32 .ensures)
-      (c .before .wrapping-sub-u322 .ensures)
-      (inside c .before .before .loop .inv .1),
-)
+loop-again c =
+    let met₄ = c .before in
+    let met₃ = met₄ .before .before .before in
+    let met₂ = met₃ .before .before .before in
+    let met₁ = met₂ .before .before .before in
+    let turn = met₁ .before .before in
+    let right = entry turn .pre .0 in
+    let i = turn .before .before .loop .i in
+    let w₁ = met₁ .met .ensures _ right (omega arith) _ (turn .before .before .loop .inv .1) in
+    let w₂ = walked-at {j = i + 2} (met₂ .met2 .ensures _ right (omega arith) _ w₁) (omega arith) in
+    let w₃ = walked-at {j = i + 3} (met₃ .met3 .ensures _ right (omega arith) _ w₂) (omega arith) in
+    (omega arith, walked-at {j = i + 4} (met₄ .met4 .ensures _ right (omega arith) _ w₃) (omega arith))
+
+walked-from-requires : tie.Need-walked-from-requires Inv-loop μ-loop
+walked-from-requires c κs =
+    let head = c .before .before .before in
+    let pre = head .before .before .before .before .pre in
+    ((pre .0, pre .1), head .loop .inv)
 
 returns : tie.Need-returns Inv-loop μ-loop
-unfolding adjustmentsWrong
-returns c =
-    let begun = c .before .before .before .before .before .before in
-    let same : c .before .before .loop .i ≡ begun .args .h .«interval_count» = omega arith in (
-      rw same at (walked-flag _ _ _ _ _ _ (c .before .before .loop .inv .1)),
-      λ f.
-          let sums = walked-sums _ _ _ _ _ _ (c .before .before .loop .inv .1) f in
-          record {
-            cell = λ j l.
-                sums .cell j l
-                ∙ ap (held _ j) (sums .starts ∙ ap (before _) same ∙ begun .pre .0 .last)
-                ∙ held-same _ _ _ _ _ _ _ j _;
-          },
-    )
+returns c = c .walked-from .ensures
 
 pub walked-spec : {M : Type 1} → statement M
 walked-spec =
@@ -122,21 +127,28 @@ walked-spec =
     Inv-loop
     μ-loop
     loop-holds
+    add-if1
     cast-if1
-    mul-end
-    shared-slice-read-end
-    mul-block
-    shared-slice-read-block
-    cast-block
-    mul-adjustment
-    shared-slice-read-adjustment
-    wrapping-sub-u32-requires
-    wrapping-sub-u32-requires-2
-    mul-bad
-    element-copy-out-bad
-    mul-sums
-    element-write-sums
+    met-requires
+    add-met
+    mul-met
+    shared-slice-read-met
+    met-requires-2
+    add-met-2
+    add-met-3
+    mul-met-2
+    shared-slice-read-met-2
+    met-requires-3
+    add-met-4
+    add-met-5
+    mul-met-3
+    shared-slice-read-met-3
+    met-requires-4
+    add-start
+    mul-start
+    shared-slice-read-start
     add-i
     loop-less
     loop-again
+    walked-from-requires
     returns)
