@@ -12,8 +12,9 @@ use Rattle.machine.specs.Machine.{stands, bytesOf, Rests, Ready, Turns}
 use Rattle.machine.specs.declared.After.{After}
 use Rattle.machine.specs.declared.Machine.{Machine}
 use Rattle.machine.proofs.Going.{goes-none, goes-then}
-use Rattle.shell.specs.Shell.{Logged, Worked}
-use Rattle.shell.proofs.Logging.{logged-none, logged-more}
+use Rattle.streams.specs.Streams.{Logged}
+use Rattle.shell.specs.Shell.{Worked}
+use Rattle.streams.proofs.Logging.{logged-none, logged-more}
 
 -- TURNS
 

@@ -1,3 +1,2 @@
 pub mod Falling
 pub mod Running
-pub mod Logging

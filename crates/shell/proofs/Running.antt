@@ -1,7 +1,7 @@
 -- What a run keeps: its input and its text, recorded, and the text with what is due is the output of the input and what follows.
 -- Assumes nothing.
 use Prim.Native.Nat.{ℕ, zero, suc, _+_, _-_, _^_, _≤_, _<_}
-use mathlib.Core.Path.{_≡_, refl, sym, _∙_, ap, ap₂, subst}
+use mathlib.Core.Path.{_≡_, refl, sym, _∙_, ap, subst}
 use mathlib.Core.Bool.{true, false, true≢false}
 use mathlib.Core.List.{List, [], _∷_, _++_, append-nil, append-assoc}
 use native.Mathlib.Omega.{arith}
@@ -14,10 +14,11 @@ use Rattle.machine.specs.Standing.{Standing, beginning, due, Goes, Idle, receiv
 use Rattle.machine.specs.Machine.{stands, bytesOf, Rests}
 use Rattle.machine.specs.declared.Machine.{Machine}
 use Rattle.machine.proofs.Folding.{ended-gone, due-closed, ended-closed, due-none, due-received, due-beginning}
-use Rattle.shell.specs.Shell.{Logged, Ends, Ran}
+use Rattle.streams.specs.Streams.{Logged}
+use Rattle.shell.specs.Shell.{Ends, Ran}
 use Rattle.shell.specs.declared.End.{End}
 use Rattle.shell.specs.declared.End.the-variants.{Whole, Closed, Spent}
-use Rattle.shell.proofs.Logging.{logged-none, logged-more}
+use Rattle.streams.proofs.Logging.{logged-none, logged-more}
 
 pub record Going (log₁ log₂ log₁′ log₂′ : List ℕ) (n k reads : ℕ) (s : Standing) : Type 0 where
   pub input : List ℕ
@@ -45,21 +46,16 @@ pub rests-idle : {m : Machine} {block : List ℕ} (k : Rack) → Rests m block �
 unfolding stands
 rests-idle k r = record { listing = r .listing; rest = r .rest }
 
--- the bytes from a place on up to another, and how many they are
-module _ (size got : ℕ) (block : List ℕ) where
-  pub between : take got (drop size block) ≡ take (size + got - size) (drop size block)
-  between = let count : got ≡ size + got - size = omega arith in ap (λ n. take n (drop size block)) count
+-- how many bytes a read brought
+pub came-length : (size got : ℕ) (block : List ℕ) → size + got ≤ length block → length (take got (drop size block)) ≡ got
+came-length size got block h = length-take-le got (drop size block) (omega (arith, length-drop size block))
 
-  pub between-length : size + got ≤ length block → length (take (size + got - size) (drop size block)) ≡ got
-  between-length h =
-      ap length (sym between) ∙ length-take-le got (drop size block) (omega (arith, length-drop size block))
-
--- turns after bytes received: those that are recorded, behind the bytes as they stood before the read
+-- turns after bytes received behind those that the read kept
 pub went-on
-    : {z s′ : Standing} {put b b₁ l l₁ : List ℕ} (m : Machine) (k : Rack) → z ≡ received b₁ (stands m k l₁) → b₁ ≡ b → l₁ ≡ l
+    : {z s′ : Standing} {put l l₁ : List ℕ} (m : Machine) (k : Rack) (b : List ℕ) → z ≡ received b (stands m k l₁) → l₁ ≡ l
     → Goes [] z put s′ → Goes [] (received b (stands m k l)) put s′
-went-on {s′ = s′} {put = put} m k e part same g =
-    subst (λ (z : Standing). Goes [] z put s′) (e ∙ ap₂ (λ (b l : List ℕ). received b (stands m k l)) part same) g
+went-on {s′ = s′} {put = put} m k b e kept g =
+    subst (λ (z : Standing). Goes [] z put s′) (e ∙ ap (λ (l : List ℕ). received b (stands m k l)) kept) g
 
 module _
     {log₁ log₂ log₁′ log₂′ : List ℕ} {n k reads : ℕ} {s : Standing} (g : Going log₁ log₂ log₁′ log₂′ n k reads s)

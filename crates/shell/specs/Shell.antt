@@ -1,25 +1,20 @@
 -- What the shell does, as far as its logs tell. Assumes nothing.
-use Prim.Native.Nat.{ℕ, _+_, _^_, _≤_, _<_, min}
+use Prim.Native.Nat.{ℕ, _+_, _^_, _≤_, _<_}
 use mathlib.Core.Path.{_≡_}
 use mathlib.Core.Bool.{true, false}
 use mathlib.Core.List.{List, [], _++_}
 use lib.ListN.{length}
-use lib.Seq.{sets}
 use Rattle.model.specs.Lent.{Lents}
 use Rattle.model.specs.Console.{output}
 use Rattle.console.specs.Rack.{Rack, rackGiven, rackLeft}
 use Rattle.machine.specs.Standing.{Goes}
 use Rattle.machine.specs.Machine.{stands, bytesOf, Rests, Ready}
 use Rattle.machine.specs.declared.Machine.{Machine}
+use Rattle.streams.specs.Streams.{Logged}
 use Rattle.shell.specs.declared.Done.{Done}
 use Rattle.shell.specs.declared.End.{End}
 use Rattle.shell.specs.declared.End.the-variants.{Whole, Closed, Spent}
 use Rattle.shell.specs.declared.Outcome.{Outcome}
-
--- bytes recorded in a log from place n on, as many as it has room for: the log and the place afterwards
-pub record Logged (log : List ℕ) (n : ℕ) (bytes log′ : List ℕ) (n′ : ℕ) : Type 0 where
-  pub holds : log′ ≡ sets log n bytes
-  pub place : n′ ≡ min (n + length bytes) (length log)
 
 -- turns of the machine: the text that they put, recorded; and the machine, which has gone on by that text, can go on, and has nothing
 -- left to do unless a write failed, which had something to write

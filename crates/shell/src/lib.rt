@@ -1,4 +1,5 @@
-// The program around the machine: it reads, lets the machine work, and writes.
+// The program around the machine: it reads, lets the machine work, and writes. Logs, and the places reached in them, are named only
+// to hand them on (tools/logs), so that the program does the same whatever logs it is lent.
 use machine::BLOCK;
 use machine::Machine;
 use machine::NUMBERS;
@@ -8,14 +9,16 @@ use machine::start;
 use machine::turn;
 use model::limits::BLOCKS;
 use model::limits::INTERVALS;
+use streams::read;
+use streams::write;
 ghost use mathlib.Core.Path.{_≡_};
 ghost use mathlib.Core.Bool.{false};
-ghost use Prim.Native.Nat.{_+_, _≤_, _<_};
-ghost use lib.ListN.{length, take};
+ghost use Prim.Native.Nat.{_≤_};
+ghost use lib.ListN.{length};
 ghost use Rattle.model.specs.Lent.{arraysNow};
 ghost use Rattle.model.specs.Refusal.{roomShort};
 ghost use Rattle.machine.specs.Machine.{ReadyNow};
-ghost use Rattle.shell.specs.Shell.{Logged, Works, Runs};
+ghost use Rattle.shell.specs.Shell.{Works, Runs};
 
 // After the turns over a block: the machine, the place reached in the log, and whether a write failed, which leaves the rest undone.
 struct Done {
@@ -38,46 +41,6 @@ pub struct Outcome {
     pub end: End,
 }
 
-// Writes the first n bytes of `out`, and says whether it could: to write nothing does not fail.
-fn write(out: &[u8], n: usize) -> bool
-    requires { ⌜ n ≤ length (now out) ⌝ }
-    ensures { λ r. ⌜ (r ≡ false → 0 < n) ⌝ }
-{
-    if n == 0 {
-        return true;
-    }
-    io::write_all(1, &out[..n])
-}
-
-// Reads behind the first `size` bytes of a block: how many bytes, 0 where the input has ended or cannot be read.
-fn read(block: &mut [u8], size: usize) -> usize
-    requires { ⌜ size < length (now block) ⌝ }
-    ensures front { λ _. ⌜ take size (now (block .exit)) ≡ take size (now (block .entry)) ⌝ }
-    ensures room { λ r. ⌜ size + r ≤ length (now (block .exit)) ⌝ }
-{
-    let rest = &mut block[size..];
-    let got = libc::read(0, rest);
-    io::count(got, rest)
-}
-
-// Records bytes in a log from place `at` on, as many as it has room for: the place reached.
-fn record(log: &mut [u8], at: usize, bytes: &[u8]) -> usize
-    requires { ⌜ at ≤ length (now log) ⌝ }
-    ensures { λ r. ⌜ Logged (now (log .entry)) at (now (bytes .entry)) (now (log .exit)) r ⌝ }
-{
-    let mut i = 0;
-    let mut to = at;
-    while to < log.len() {
-        if i == bytes.len() {
-            return to;
-        }
-        log[to] = bytes[i];
-        i += 1;
-        to += 1;
-    }
-    to
-}
-
 // The machine's turns, the text of each recorded in the log from place `text` on and written, until nothing is left to do or a write
 // fails.
 fn work(
@@ -93,12 +56,12 @@ fn work(
     second_adjustments: &mut [u32; INTERVALS],
     rows: &mut [u32; NUMBERS],
     out: &mut [u8; OUT],
-    log: &mut [u8],
+    text_log: &mut [u8],
     mut text: usize,
 ) -> Done
     requires { ⌜ ReadyNow m block tops ends blocks adjustments «second_tops» «second_ends» «second_blocks» «second_adjustments» ⌝ }
-    requires { ⌜ text ≤ length (now log) ⌝ }
-    ensures { λ r. ⌜ Works m block tops ends blocks adjustments «second_tops» «second_ends» «second_blocks» «second_adjustments» log text r ⌝ }
+    requires { ⌜ text ≤ length (now «text_log») ⌝ }
+    ensures { λ r. ⌜ Works m block tops ends blocks adjustments «second_tops» «second_ends» «second_blocks» «second_adjustments» «text_log» text r ⌝ }
 {
     loop {
         let after = turn(
@@ -116,9 +79,9 @@ fn work(
             out,
         );
         m = after.machine;
-        let bytes = &out[..];
-        text = record(log, text, &bytes[..after.put]);
-        if !write(out, after.put) {
+        let written = write(out, after.put, text_log, text);
+        text = written.place;
+        if written.failed {
             return Done {
                 machine: m,
                 text,
@@ -161,11 +124,9 @@ fn serve(
     let mut text = 0;
     let mut reads = 18_446_744_073_709_551_615u64;
     while 0 < reads {
-        let size = m.size;
-        let got = read(block, size);
-        let bytes = &block[..];
-        input = record(input_log, input, &bytes[size..size + got]);
-        m = receive(m, block, got);
+        let came = read(block, m.size, input_log, input);
+        input = came.place;
+        m = receive(m, block, came.got);
         let done = work(
             m,
             block,
@@ -190,7 +151,7 @@ fn serve(
                 end: End::Closed,
             };
         }
-        if got == 0 {
+        if came.got == 0 {
             return Outcome {
                 input,
                 text,
@@ -208,7 +169,7 @@ fn serve(
 }
 
 // The program, with its two whole tables. What it reads and what it writes is recorded in two logs, as far as they reach, so that
-// its promise can speak of it; the program itself lends none.
+// its promise can speak of it; the programs lend logs of no length, since they need no record.
 pub fn run(input_log: &mut [u8], text_log: &mut [u8]) -> Outcome
     ensures { λ r. ⌜ Runs «input_log» «text_log» r ⌝ }
 {

@@ -6,9 +6,9 @@ use native.Mathlib.Omega.{arith}
 use Rattle.model.specs.Table.{arrays}
 use Rattle.console.specs.Rack.{rack}
 use Rattle.machine.specs.Machine.{stands, bytesOf, Rests, Ready}
+use Rattle.streams.proofs.Logging.{logged-length, logged-place}
 use Rattle.shell.proofs.Falling.{rests-read, ready-read}
-use Rattle.shell.proofs.Running.{Going, going-none, rests-idle, between, between-length, went-on, going-spent, going-on, going-whole, going-closed}
-use Rattle.shell.proofs.Logging.{logged-length, logged-place}
+use Rattle.shell.proofs.Running.{Going, going-none, rests-idle, came-length, went-on, going-spent, going-on, going-whole, going-closed}
 use Rattle.shell.proofs.serve.Statement.{statement}
 use Rattle.shell.proofs.serve.Tie as tie
 
@@ -22,18 +22,15 @@ Inv-loop h s block t e b a t₂ e₂ b₂ a₂ rows out m i k reads h′ s′ bl
 abbrev μ-loop : tie.MeasureT-loop
 μ-loop h s block t e b a t₂ e₂ b₂ a₂ rows out m i k reads h′ s′ block′ t′ e′ b′ a′ t₂′ e₂′ b₂′ a₂′ rows′ out′ m′ i′ k′ reads′ = reads′
 
--- the places of a turn of the loop: its beginning, and where the bytes are read, recorded and received
+-- the places of a turn of the loop: its beginning, and where the bytes are read and received
 abbrev received : tie.After-work Inv-loop μ-loop → tie.After-receive Inv-loop μ-loop
 received w = w .before .before .before .before .before .before .before .before .before .before .before .before .before
 
-abbrev recorded : tie.After-work Inv-loop μ-loop → tie.After-record Inv-loop μ-loop
-recorded w = received w .before .before .before .before
-
 abbrev reading : tie.After-work Inv-loop μ-loop → tie.After-read Inv-loop μ-loop
-reading w = recorded w .before .before .before .before .before
+reading w = received w .before .before .before .before
 
-abbrev turn : tie.After-work Inv-loop μ-loop → tie.At-loop Inv-loop μ-loop
-turn w = reading w .before .before .before
+abbrev going : tie.After-work Inv-loop μ-loop → tie.In-loop Inv-loop μ-loop
+going w = reading w .before .before .before
 
 -- one less of a number that is not 0
 one-less : (n : ℕ) → 0 < n → n - 1 < n
@@ -49,90 +46,73 @@ loop-holds c =
     (going-none _ _ _ _ (begins .stands _ _ _) (omega arith), begins .ready _ _ _ (pre .0) (pre .1), begins .rests _)
 
 read-requires : tie.Need-read-requires Inv-loop μ-loop
-read-requires c κs = omega (arith, c .before .before .loop .inv .2 .few)
-
-add-record : tie.Need-add-record Inv-loop μ-loop
-add-record c = omega (arith, c .before .before .before .read .ensures .1)
-
-sub-record : tie.Need-sub-record Inv-loop μ-loop
-sub-record c = omega arith
-
-part-record-start : tie.Need-part-record-start Inv-loop μ-loop
-part-record-start c = omega (arith, c .before .before .before .read .ensures .1)
-
-part-record-end : tie.Need-part-record-end Inv-loop μ-loop
-part-record-end c = omega (arith, c .before .before .before .read .ensures .1)
-
-record-requires : tie.Need-record-requires Inv-loop μ-loop
-record-requires c κs = logged-place (c .before .before .before .before .before .before .before .loop .inv .0 .inputLogged)
+read-requires c κs =
+    let inv = c .before .before .before .loop .inv in (omega (arith, inv .2 .few), logged-place (inv .0 .inputLogged))
 
 receive-requires : tie.Need-receive-requires Inv-loop μ-loop
 receive-requires c κs =
-    let inv = c .before .before .before .before .before .before .before .before .before .before .before .loop .inv in
-    let read = c .before .before .before .before .before .before .before .before .read .ensures in
-    (rests-read (inv .2) (read .0), inv .1 .from, omega (arith, inv .2 .few), read .1)
+    let read = c .before .before .before in
+    let inv = read .before .before .before .before .loop .inv in
+    (rests-read (inv .2) (read .read .ensures .kept), inv .1 .from, omega (arith, inv .2 .few), read .read .ensures .room)
 
 work-requires : tie.Need-work-requires Inv-loop μ-loop
 work-requires c κs =
     let received = c .before .before .before .before .before .before .before .before .before .before .before .before in
-    let inv = received .before .before .before .before .before .before .before .before .before .before .before .before .loop .inv in
+    let inv = received .before .before .before .before .before .before .before .before .loop .inv in
     (received .receive .ensures .ready _ _ (ready-read (inv .1) (omega (arith, inv .2 .few))), logged-place (inv .0 .textLogged))
 
 same-length : tie.Need-same-length Inv-loop μ-loop
 same-length c = let w = c .before .before .before in
-    logged-length (recorded w .record .ensures) ∙ logged-length (turn w .loop .inv .0 .inputLogged)
+    logged-length (reading w .read .ensures .logged) ∙ logged-length (going w .before .loop .inv .0 .inputLogged)
 
 same-length-2 : tie.Need-same-length-2 Inv-loop μ-loop
 same-length-2 c = let w = c .before .before .before in
-    logged-length (w .work .ensures .logged) ∙ logged-length (turn w .loop .inv .0 .textLogged)
+    logged-length (w .work .ensures .logged) ∙ logged-length (going w .before .loop .inv .0 .textLogged)
 
 returns : tie.Need-returns Inv-loop μ-loop
 returns c =
     let w = c .before .before .before in
-    let head = turn w .loop in
+    let head = going w .before .loop in
     let read = reading w .read in
-    let bytes = between (head .m .size) (read .result) (read .last .0) in
-    let goes = went-on _ _ (received w .receive .ensures .stands _ _) bytes (read .ensures .0) (w .work .ensures .goes) in
-    going-closed (head .inv .0) (recorded w .record .ensures) (w .work .ensures .logged) goes (rests-idle _ (head .inv .2))
+    let goes = went-on _ _ _ (received w .receive .ensures .stands _ _) (read .ensures .kept) (w .work .ensures .goes) in
+    going-closed (head .inv .0) (read .ensures .logged) (w .work .ensures .logged) goes (rests-idle _ (head .inv .2))
     (w .work .ensures .tried (c .if1 .taken))
 
 same-length-3 : tie.Need-same-length-3 Inv-loop μ-loop
-same-length-3 c = let w = c .before .before .before .before in
-    logged-length (recorded w .record .ensures) ∙ logged-length (turn w .loop .inv .0 .inputLogged)
+same-length-3 c = let w = c .before .before .before .before .before in
+    logged-length (reading w .read .ensures .logged) ∙ logged-length (going w .before .loop .inv .0 .inputLogged)
 
 same-length-4 : tie.Need-same-length-4 Inv-loop μ-loop
-same-length-4 c = let w = c .before .before .before .before in
-    logged-length (w .work .ensures .logged) ∙ logged-length (turn w .loop .inv .0 .textLogged)
+same-length-4 c = let w = c .before .before .before .before .before in
+    logged-length (w .work .ensures .logged) ∙ logged-length (going w .before .loop .inv .0 .textLogged)
 
 returns-2 : tie.Need-returns-2 Inv-loop μ-loop
 returns-2 c =
-    let w = c .before .before .before .before in
-    let head = turn w .loop in
+    let w = c .before .before .before .before .before in
+    let head = going w .before .loop in
     let read = reading w .read in
-    let bytes = between (head .m .size) (read .result) (read .last .0) in
-    let goes = went-on _ _ (received w .receive .ensures .stands _ _) bytes (read .ensures .0) (w .work .ensures .goes) in
-    going-whole (head .inv .0) (recorded w .record .ensures) (w .work .ensures .logged) goes (rests-idle _ (head .inv .2))
-    (between-length (head .m .size) (read .result) (read .last .0) (read .ensures .1) ∙ c .if2 .taken)
-    (rests-idle _ (w .work .ensures .rests (c .before .if1 .left)))
+    let goes = went-on _ _ _ (received w .receive .ensures .stands _ _) (read .ensures .kept) (w .work .ensures .goes) in
+    going-whole (head .inv .0) (read .ensures .logged) (w .work .ensures .logged) goes (rests-idle _ (head .inv .2))
+    (came-length (head .m .size) (read .result .got) (read .last .0) (read .ensures .room) ∙ c .if2 .taken)
+    (rests-idle _ (w .work .ensures .rests (c .before .before .if1 .left)))
 
 sub-reads : tie.Need-sub-reads Inv-loop μ-loop
-sub-reads c = let w = c .before .before .before .before .before in reading w .before .before .loop-test .taken
+sub-reads c = let w = c .before .before .before .before .before .before in going w .loop-test .taken
 
 loop-less : tie.Need-loop-less Inv-loop μ-loop
-loop-less c = let w = c .before .before .before .before .before in one-less _ (reading w .before .before .loop-test .taken)
+loop-less c = let w = c .before .before .before .before .before .before in one-less _ (going w .loop-test .taken)
 
 loop-again : tie.Need-loop-again Inv-loop μ-loop
 loop-again c =
-    let w = c .before .before .before .before .before in
-    let head = turn w .loop in
+    let w = c .before .before .before .before .before .before in
+    let head = going w .before .loop in
     let read = reading w .read in
-    let bytes = between (head .m .size) (read .result) (read .last .0) in
-    let goes = went-on _ _ (received w .receive .ensures .stands _ _) bytes (read .ensures .0) (w .work .ensures .goes) in
-    let some = between-length (head .m .size) (read .result) (read .last .0) (read .ensures .1) in (
-      going-on (head .inv .0) (recorded w .record .ensures) (w .work .ensures .logged) goes (reading w .before .before .loop-test .taken)
+    let goes = went-on _ _ _ (received w .receive .ensures .stands _ _) (read .ensures .kept) (w .work .ensures .goes) in
+    let some = came-length (head .m .size) (read .result .got) (read .last .0) (read .ensures .room) in (
+      going-on (head .inv .0) (read .ensures .logged) (w .work .ensures .logged) goes (going w .loop-test .taken)
           (omega (arith, some, c .before .if2 .left)),
       w .work .ensures .ready,
-      w .work .ensures .rests (c .before .before .if1 .left),
+      w .work .ensures .rests (c .before .before .before .if1 .left),
     )
 
 same-length-5 : tie.Need-same-length-5 Inv-loop μ-loop
@@ -153,11 +133,6 @@ serve-spec =
     start-requires
     loop-holds
     read-requires
-    add-record
-    sub-record
-    part-record-start
-    part-record-end
-    record-requires
     receive-requires
     work-requires
     same-length

@@ -9,7 +9,7 @@ use lib.ListN.{length, getD, take, drop, set, length-append, length-set, take-ap
 use lib.Seq.{take-all, take-suc, length-take-le, sets, length-sets}
 use Rattle.model.proofs.Counts.{below-or}
 use Rattle.model.proofs.Entries.{sets-more, Put, put-none, put-more, put-length}
-use Rattle.shell.specs.Shell.{Logged}
+use Rattle.streams.specs.Streams.{Logged}
 
 -- a store past the end changes nothing
 set-past : (l : List ℕ) (i v : ℕ) → length l ≤ i → set l i v ≡ l
@@ -66,7 +66,7 @@ module _ {log : List ℕ} {n : ℕ} {bytes : List ℕ} {i : ℕ} {log′ : List 
         place = omega (arith, t .fits, t .put .place, t .some, size, put-length (t .put));
       }
 
--- TAPES
+-- LOGS
 
 pub logged-none : (log : List ℕ) (n : ℕ) → n ≤ length log → Logged log n [] log n
 logged-none log n h = record { holds = refl; place = omega arith }
@@ -78,6 +78,10 @@ module _ {log : List ℕ} {n : ℕ} {bytes log′ : List ℕ} {n′ : ℕ} (t : 
   -- the place reached is on the log
   pub logged-place : n′ ≤ length log′
   logged-place = omega (arith, t .place, logged-length)
+
+  -- the same bytes, said in another way
+  pub logged-same : {bytes′ : List ℕ} → bytes ≡ bytes′ → Logged log n bytes′ log′ n′
+  logged-same e = subst (λ (b : List ℕ). Logged log n b log′ n′) e t
 
   -- more bytes behind those recorded
   pub logged-more : {more log″ : List ℕ} {n″ : ℕ} → Logged log′ n′ more log″ n″ → Logged log n (bytes ++ more) log″ n″

@@ -1,11 +1,11 @@
--- `shell::record` meets its contract. The loop's invariant: the first i bytes are recorded. Assumes nothing.
+-- `streams::record` meets its contract. The loop's invariant: the first i bytes are recorded. Assumes nothing.
 use Prim.Native.Nat.{_-_}
 use native.Mathlib.Omega.{arith}
 use lib.ListN.{length}
 use Rattle.model.proofs.Entries.{put-length}
-use Rattle.shell.proofs.Logging.{Logging, logging-none, logging-next, logging-all, logging-full}
-use Rattle.shell.proofs.record.Statement.{statement}
-use Rattle.shell.proofs.record.Tie as tie
+use Rattle.streams.proofs.Logging.{Logging, logging-none, logging-next, logging-all, logging-full}
+use Rattle.streams.proofs.record.Statement.{statement}
+use Rattle.streams.proofs.record.Tie as tie
 
 abbrev Inv-loop : tie.InvT-loop
 Inv-loop log₀ at bytes i₀ to₀ log i to = Logging log₀ at bytes i log to
