@@ -1,5 +1,5 @@
 -- What the tests of a file show of it and of the header h that it says, and the table that it gives. Assumes nothing.
-use Prim.Native.Nat.{ℕ, _≤_}
+use Prim.Native.Nat.{ℕ, _+_, _≤_}
 use mathlib.Core.Path.{_≡_, refl, sym, _∙_, ap, ap₂, subst}
 use mathlib.Core.Bool.{true, false, not}
 use mathlib.Core.List.{List, [], _∷_, _++_}
@@ -12,17 +12,18 @@ use Rattle.model.specs.Basics.{if_then_else_, _and_, all, before, count, sum, f
 use Rattle.model.specs.Table.{Arrays, arrays, table, over, written}
 use Rattle.model.specs.Place.{others}
 use Rattle.model.specs.Refusal.{first, topsWrong, endsWrong, blocksWrong, adjustmentOf, adjustmentsWrong, roomShort}
-use Rattle.model.specs.Saved.{savedLength, loadedHeader, readArrays, loadedArrays, fileWrong}
+use Rattle.model.specs.Saved.{number, savedLength, loadedHeader, readArrays, loadedArrays, fileWrong}
 use Rattle.model.specs.Calls.{noHeader, arraysAfter, loadAnswer, loadTests}
 use Rattle.model.specs.declared.table.Header.{Header}
 use Rattle.model.specs.declared.reply.LoadReply.{LoadReply}
-use Rattle.model.proofs.Refusals.{or-left, or-right, first-skip, first-here, accepted, refused}
+use Rattle.model.proofs.Refusals.{or-left, or-right, first-clear, first-skip, first-here, accepted, refused}
 use Rattle.model.proofs.Tables.{length-from, length-over}
 use Rattle.model.proofs.Rules.{blocks-inside, intervals-inside}
-use Rattle.model.proofs.Holdings.{adjustment-same, holdings-same}
+use Rattle.model.proofs.Holdings.{holdings-same}
 use Rattle.model.proofs.Loads.{written-whole}
-use Rattle.file.specs.Loading.{fileArrays, Counted, Opened, Decoded, outOver, loadedOver, Loaded}
-use Rattle.soundness.specs.Passed.{Counted as Rule11, layoutTests, arrayTests, ruleTests, alone, Completed}
+use Rattle.file.specs.Loading.{fileArrays, Counted, Opened, arrayTests, Completed, outOver, loadedOver, Loaded}
+use Rattle.soundness.specs.Passed.{Counted as Rule11, layoutTests, ruleTests, alone}
+use Rattle.soundness.proofs.Passed.{Laid}
 
 module _ (f : List ℕ) (h : Header) (e : h ≡ loadedHeader f) where
   -- rule 11 passed
@@ -43,7 +44,7 @@ module _ (f : List ℕ) (h : Header) (e : h ≡ loadedHeader f) where
 
   -- the others answer
   pub later : fileWrong f ≡ false → first (loadTests f) ≡ first (arrayTests h (fileArrays f h))
-  unfolding loadTests loadedArrays readArrays arrayTests layoutTests
+  unfolding loadTests loadedArrays readArrays arrayTests
   later w =
       first-skip _ _ w
       ∙ ap
@@ -80,7 +81,7 @@ module _ (f : List ℕ) (h : Header) (e : h ≡ loadedHeader f) where
       (written-whole (loadedHeader f) (loadedArrays f) old
       (length-from _ _ _) (length-from _ _ _) (length-from _ _ _) (length-from _ _ _))
 
--- DECODED ARRAYS
+-- ARRAYS OVER ARRAYS
 
 -- all of a list of the length n
 whole : (xs : List ℕ) (n : ℕ) → length xs ≡ n → take n xs ≡ xs
@@ -96,91 +97,53 @@ pub filled : (xs old new : List ℕ) → new ≡ over xs old → length xs ≡ l
 filled xs old new e l =
     e ∙ sym (whole (over xs old) (length xs) (length-over xs old (omega arith) ∙ sym l)) ∙ taken xs old (over xs old) (length xs) refl refl
 
--- the lists keep their lengths
-pub over-long : (xs old new : List ℕ) (n : ℕ) → new ≡ over xs old → length xs ≡ n → n ≤ length old → n ≤ length new
-over-long xs old new n e l m = omega (arith, ap length e, length-over xs old (omega arith))
+-- RULES 12 TO 15
 
--- what a file's numbers stand over
-pub decoded
-    : (f : List ℕ) (h : Header) (t₀ e₀ b₀ t e b : List ℕ)
-    → t ≡ over (fileArrays f h .tops) t₀ → e ≡ over (fileArrays f h .ends) e₀ → b ≡ over (fileArrays f h .blocks) b₀
-    → Decoded f h t e b
-decoded f h t₀ e₀ b₀ t e b p q s =
+-- a file's arrays are as long as their counts
+pub file-counted : (f : List ℕ) (h : Header) → Counted f h → Rule11 h (fileArrays f h .tops) (fileArrays f h .ends) (fileArrays f h .blocks)
+file-counted f h c =
     record {
-      topsRead = taken _ t₀ t _ p (length-from _ _ _);
-      endsRead = taken _ e₀ e _ q (length-from _ _ _);
-      blocksRead = taken _ b₀ b _ s (length-from _ _ _);
+      someBlocks = c .someBlocks;
+      blockLimit = c .blockLimit;
+      someIntervals = c .someIntervals;
+      topsLong = omega (arith, length-from (number f) 3 (h .«block_count»));
+      endsLong = omega (arith, length-from (number f) (3 + h .«block_count») (h .«interval_count»));
+      blocksLong = omega (arith, length-from (number f) (3 + h .«block_count» + h .«interval_count») (h .«interval_count»));
     }
 
--- ARRAYS THAT HOLD WHAT A FILE'S DO
+-- 12 to 14 passed
+pub file-laid
+    : (h : Header) (a : Arrays) → topsWrong h (a .tops) ≡ false
+    → first ((13, endsWrong h (a .ends)) ∷ (14, blocksWrong h (a .blocks)) ∷ []) ≡ 0 → Laid h (a .tops) (a .ends) (a .blocks)
+file-laid h a t e =
+    let u = first-clear _ _ (λ z. omega arith) e in
+    let v = first-clear _ _ (λ z. omega arith) (u .1) in
+    record { topsPass = t; endsPass = u .0; blocksPass = v .0 }
 
 module _
     (f : List ℕ) (h : Header) (out : Arrays) (o : Opened f h out)
-    (t e b : List ℕ) (p : t ≡ fileArrays f h .tops) (q : e ≡ fileArrays f h .ends) (s : b ≡ fileArrays f h .blocks)
+    (own own′ : List ℕ) (r : ℕ) (c : Completed h (fileArrays f h) own r own′) (old : Arrays)
   where
-    -- they are as long as their counts
-    tops-length : length t ≡ h .«block_count»
-    tops-length = ap length p ∙ length-from _ _ _
+    -- the refusal is the file's
+    said : r ≡ first (loadTests f)
+    said = c .answer ∙ sym (later f h (o .says) (o .passes))
 
-    ends-length : length e ≡ h .«interval_count»
-    ends-length = ap length q ∙ length-from _ _ _
+    pub loaded-refused : (r ≡ 0 → ⊥) → Loaded f old r old
+    unfolding loadedOver arraysAfter
+    loaded-refused n =
+        record { refusal = said; lent = sym (refused (first (loadTests f)) _ _ (λ z. n (said ∙ z))) }
 
-    blocks-length : length b ≡ h .«interval_count»
-    blocks-length = ap length s ∙ length-from _ _ _
-
-    pub decoded-counted : Rule11 h t e b
-    decoded-counted =
+    pub loaded-accepted : r ≡ 0 → (left : Arrays) → left ≡ outOver f h own′ old → Loaded f old 0 left
+    unfolding loadedOver arraysAfter
+    loaded-accepted z left d =
         record {
-          someBlocks = o .counted .someBlocks;
-          blockLimit = o .counted .blockLimit;
-          someIntervals = o .counted .someIntervals;
-          topsLong = omega (arith, tops-length);
-          endsLong = omega (arith, ends-length);
-          blocksLong = omega (arith, blocks-length);
+          refusal = sym z ∙ said;
+          lent =
+              d
+              ∙ loaded-written f h (o .says) old _ _ _ _ refl refl refl
+              (ap (λ xs. over xs (old .adjustments)) (taken _ own own′ _ (c .adjusted z) (length-from _ _ _)))
+              ∙ sym (accepted (first (loadTests f)) _ _ (sym said ∙ z));
         }
-
-    pub decoded-long : (h .«block_count» ≤ length t) × (h .«interval_count» ≤ length e) × (h .«interval_count» ≤ length b)
-    decoded-long = (omega (arith, tops-length), omega (arith, ends-length), omega (arith, blocks-length))
-
-    module _ (own own′ : List ℕ) (r : ℕ) (c : Completed h t e b own r own′) (old : Arrays) where
-      -- the refusal is the file's
-      said : r ≡ first (loadTests f)
-      said =
-          c .answer
-          ∙ (λ i. first (arrayTests h (arrays (p i) (q i) (s i) [])))
-          ∙ sym (later f h (o .says) (o .passes))
-
-      pub loaded-refused : (r ≡ 0 → ⊥) → Loaded f old r old
-      unfolding loadedOver arraysAfter
-      loaded-refused n =
-          record { refusal = said; lent = sym (refused (first (loadTests f)) _ _ (λ z. n (said ∙ z))) }
-
-      -- the adjustments worked out are the file's
-      adjusted : r ≡ 0 → take (h .«interval_count») own′ ≡ from (adjustmentOf h (fileArrays f h)) 0 (h .«interval_count»)
-      adjusted z =
-          taken _ own own′ _ (c .adjusted z) (length-from _ _ _)
-          ∙ (λ i. from (adjustmentOf h (arrays [] (q i) (s i) [])) 0 (h .«interval_count»))
-          ∙ (λ i.
-          from (λ k. adjustment-same h (fileArrays f h .ends) (fileArrays f h .blocks) [] (fileArrays f h .tops) [] [] k i) 0
-          (h .«interval_count»))
-
-      pub completed-long : r ≡ 0 → h .«interval_count» ≤ length own → h .«interval_count» ≤ length own′
-      completed-long z l = over-long _ own own′ _ (c .adjusted z) (length-from _ _ _) l
-
-      pub loaded-accepted : r ≡ 0 → (left : Arrays) → left ≡ outOver f h t e own′ old → Loaded f old 0 left
-      unfolding loadedOver arraysAfter
-      loaded-accepted z left d =
-          record {
-            refusal = sym z ∙ said;
-            lent =
-                d
-                ∙ loaded-written f h (o .says) old _ _ _ _
-                (ap (λ xs. over xs (old .tops)) (whole t _ tops-length ∙ p))
-                (ap (λ xs. over xs (old .ends)) (whole e _ ends-length ∙ q))
-                refl
-                (ap (λ xs. over xs (old .adjustments)) (adjusted z))
-                ∙ sym (accepted (first (loadTests f)) _ _ (sym said ∙ z));
-          }
 
 -- ONE BLOCK AND ONE INTERVAL
 
@@ -191,21 +154,22 @@ first-adjustment h a = refl
 
 -- so an adjustment of 0 completes a table of one
 pub alone-completed
-    : (b : ℕ) (tops ends blocks : List ℕ) (x r : ℕ) → x ≡ 0 → r ≡ first (ruleTests (alone b) (arrays tops ends blocks (x ∷ [])))
-    → Completed (alone b) tops ends blocks (x ∷ []) r (x ∷ [])
+    : (b : ℕ) (a : Arrays) (tops ends blocks : List ℕ) (x r : ℕ) → arrays tops ends blocks [] ≡ a → x ≡ 0
+    → r ≡ first (ruleTests (alone b) (arrays tops ends blocks (x ∷ []))) → Completed (alone b) a (x ∷ []) r (x ∷ [])
 unfolding ruleTests arrayTests layoutTests first if_then_else_ adjustmentsWrong all _and_ from over
-alone-completed b tops ends blocks x r z e =
-    let a = arrays tops ends blocks (x ∷ []) in
-    let right : adjustmentsWrong (alone b) a ≡ false = λ i. not (eqb (z i) (first-adjustment (alone b) a i)) in
-    record {
+alone-completed b a tops ends blocks x r same z e =
+    let own = arrays tops ends blocks (x ∷ []) in
+    let right : adjustmentsWrong (alone b) own ≡ false = λ i. not (eqb (z i) (first-adjustment (alone b) own i)) in
+    subst (λ (a : Arrays). Completed (alone b) a (x ∷ []) r (x ∷ [])) same
+    (record {
       answer =
           e
           ∙ (λ i.
           first
           (layoutTests (alone b) tops ends blocks
           ++ ((15, holdings-same (alone b) ends blocks tops (x ∷ []) [] i) ∷ (16, right i) ∷ [])));
-      adjusted = λ _. ap (λ y. y ∷ []) (z ∙ sym (first-adjustment (alone b) (arrays [] ends blocks [])));
-    }
+      adjusted = λ _. ap (λ y. y ∷ []) (z ∙ sym (first-adjustment (alone b) (arrays tops ends blocks [])));
+    })
 
 -- REPLIES
 

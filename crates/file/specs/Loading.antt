@@ -2,12 +2,12 @@
 use Prim.Native.Nat.{ℕ, _+_, _*_, _≤_}
 use mathlib.Core.Path.{_≡_}
 use mathlib.Core.Bool.{false}
-use mathlib.Core.List.{List, []}
+use mathlib.Core.List.{List, [], _∷_}
 use lib.ListN.{length, take}
 use Rattle.model.specs.Basics.{from}
 use Rattle.model.specs.Limits.{maxBlocks, maxIntervals}
 use Rattle.model.specs.Table.{Arrays, arrays, table, over}
-use Rattle.model.specs.Refusal.{first, roomShort}
+use Rattle.model.specs.Refusal.{Test, first, topsWrong, endsWrong, blocksWrong, holdingsWrong, adjustmentOf, roomShort}
 use Rattle.model.specs.Saved.{number, loadedHeader, loadedArrays, fileWrong}
 use Rattle.model.specs.Calls.{arraysAfter, loadTests}
 use Rattle.model.specs.declared.table.Header.{Header}
@@ -36,18 +36,21 @@ pub record Opened (f : List ℕ) (h : Header) (out : Arrays) : Type 0 where
   pub counted : Counted f h
   pub room : roomShort out ≡ false
 
--- arrays of one's own whose first entries are the tops, ends and blocks of a file of header h
-pub record Decoded (f : List ℕ) (h : Header) (tops ends blocks : List ℕ) : Type 0 where
-  pub topsRead : take (h .«block_count») tops ≡ fileArrays f h .tops
-  pub endsRead : take (h .«interval_count») ends ≡ fileArrays f h .ends
-  pub blocksRead : take (h .«interval_count») blocks ≡ fileArrays f h .blocks
+-- the tests of 12 to 15
+unfoldable pub arrayTests : Header → Arrays → List Test
+arrayTests h a = (12, topsWrong h (a .tops)) ∷ (13, endsWrong h (a .ends)) ∷ (14, blocksWrong h (a .blocks)) ∷ (15, holdingsWrong h a) ∷ []
 
--- tops, ends and adjustments as far as the table of header h goes, and the file's blocks, over the first of the arrays `old`
-abbrev pub outOver : List ℕ → Header → List ℕ → List ℕ → List ℕ → Arrays → Arrays
-outOver f h tops ends adjustments old =
+-- what rules 12 to 15 say of a file's arrays; where they pass, `left` has the adjustments over the first of `old`
+pub record Completed (h : Header) (a : Arrays) (old : List ℕ) (r : ℕ) (left : List ℕ) : Type 0 where
+  pub answer : r ≡ first (arrayTests h a)
+  pub adjusted : r ≡ 0 → left ≡ over (from (adjustmentOf h a) 0 (h .«interval_count»)) old
+
+-- a file's arrays, and adjustments as far as its table goes, over the first of the arrays `old`
+abbrev pub outOver : List ℕ → Header → List ℕ → Arrays → Arrays
+outOver f h adjustments old =
     arrays
-    (over (take (h .«block_count») tops) (old .tops))
-    (over (take (h .«interval_count») ends) (old .ends))
+    (over (fileArrays f h .tops) (old .tops))
+    (over (fileArrays f h .ends) (old .ends))
     (over (fileArrays f h .blocks) (old .blocks))
     (over (take (h .«interval_count») adjustments) (old .adjustments))
 

@@ -1,12 +1,12 @@
-// Loading: a file's numbers are decoded into arrays of one's own, judged as those of a lent table are, and written out after
-// every rule has passed. `h` is the header that the file says.
+// Loading: a file is judged where it lies, its adjustments are worked out in an array of one's own, and all is written out
+// after every rule has passed. `h` is the header that the file says.
 use crate::number::header_of;
 use crate::number::number_at;
+use crate::rules::complete;
 use model::limits::BLOCKS;
 use model::limits::INTERVALS;
 use model::reply::LoadReply;
 use model::table::Header;
-use soundness::complete;
 use soundness::header_outside;
 use soundness::judged_alone;
 use table::copy;
@@ -22,7 +22,7 @@ ghost use Rattle.model.specs.Refusal.{roomShort, first};
 ghost use Rattle.model.specs.Saved.{number, loadedHeader, fileWrong};
 ghost use Rattle.model.specs.Calls.{loadAnswer, loadTests};
 ghost use Rattle.soundness.specs.Passed.{alone};
-ghost use Rattle.file.specs.Loading.{fileArrays, Counted, Opened, Decoded, outOver, loadedOver, Loaded};
+ghost use Rattle.file.specs.Loading.{fileArrays, Counted, Opened, outOver, loadedOver, Loaded};
 
 // 11: B, G or k outside its limits, or a file of another length.
 fn file_wrong(f: &[u8]) -> bool
@@ -78,104 +78,51 @@ fn decode(f: &[u8], h: Header, tops: &mut [u32], ends: &mut [u32], blocks: &mut 
     read_numbers(f, 3 + block_count + interval_count, interval_count, blocks);
 }
 
-// Writes a file's table over the first entries of arrays with room for any table: its tops and ends and the adjustments from
-// arrays of one's own, its blocks from the file.
+// Writes a file's table over the first entries of arrays with room for any table, with adjustments of one's own.
 fn write_out(
     f: &[u8],
     h: Header,
-    own_tops: &[u32],
-    own_ends: &[u32],
-    own_adjustments: &[u32],
+    own: &[u32],
     tops: &mut [u32],
     ends: &mut [u32],
     blocks: &mut [u32],
     adjustments: &mut [u32],
 )
     requires { ⌜ Opened (now f) h (arraysNow tops ends blocks adjustments) ⌝ }
-    requires { ⌜
-        (h .«block_count» ≤ length (now «own_tops»)) × (h .«interval_count» ≤ length (now «own_ends»)) ×
-        (h .«interval_count» ≤ length (now «own_adjustments»))
-        ⌝ }
-    ensures { λ _.
-        ⌜
-        left tops ends blocks adjustments ≡ outOver (now (f .entry)) h (now («own_tops» .entry)) (now («own_ends» .entry))
-        (now («own_adjustments» .entry)) (given tops ends blocks adjustments)
-        ⌝ }
+    requires { ⌜ h .«interval_count» ≤ length (now own) ⌝ }
+    ensures { λ _. ⌜ left tops ends blocks adjustments ≡ outOver (now (f .entry)) h (now (own .entry)) (given tops ends blocks adjustments) ⌝ }
 {
     let block_count = h.block_count as usize;
     let interval_count = h.interval_count as usize;
-    copy(own_tops, block_count, tops);
-    copy(own_ends, interval_count, ends);
+    copy_numbers(f, 3, block_count, tops);
+    copy_numbers(f, 3 + block_count, interval_count, ends);
     copy_numbers(f, 3 + block_count + interval_count, interval_count, blocks);
-    copy(own_adjustments, interval_count, adjustments);
+    copy(own, interval_count, adjustments);
 }
 
-// Loads a file whose tops, ends and blocks are in the first three arrays: the adjustments are worked out over the blocks.
-fn settle(
-    f: &[u8],
-    h: Header,
-    own_tops: &[u32],
-    own_ends: &[u32],
-    own_blocks: &mut [u32],
-    tops: &mut [u32],
-    ends: &mut [u32],
-    blocks: &mut [u32],
-    adjustments: &mut [u32],
-) -> u32
-    requires { ⌜ Opened (now f) h (arraysNow tops ends blocks adjustments) ⌝ }
-    requires { ⌜
-        (now «own_tops» ≡ fileArrays (now f) h .tops) × (now «own_ends» ≡ fileArrays (now f) h .ends) ×
-        (now «own_blocks» ≡ fileArrays (now f) h .blocks)
-        ⌝ }
-    ensures { λ r. ⌜ Loaded (now (f .entry)) (given tops ends blocks adjustments) r (left tops ends blocks adjustments) ⌝ }
-{
-    let broken = complete(h, own_tops, own_ends, own_blocks);
-    if broken != 0 {
-        return broken;
-    }
-    write_out(
-        f,
-        h,
-        own_tops,
-        own_ends,
-        own_blocks,
-        tops,
-        ends,
-        blocks,
-        adjustments,
-    );
-    0
-}
-
-// The same of arrays that go on behind the file's entries.
+// Loads a file by an array for its adjustments.
 fn load_by(
     f: &[u8],
     h: Header,
-    own_tops: &[u32],
-    own_ends: &[u32],
-    own_blocks: &mut [u32],
+    own: &mut [u32],
     tops: &mut [u32],
     ends: &mut [u32],
     blocks: &mut [u32],
     adjustments: &mut [u32],
 ) -> u32
     requires { ⌜ Opened (now f) h (arraysNow tops ends blocks adjustments) ⌝ }
-    requires { ⌜ Decoded (now f) h (now «own_tops») (now «own_ends») (now «own_blocks») ⌝ }
+    requires { ⌜ h .«interval_count» ≤ length (now own) ⌝ }
     ensures { λ r. ⌜ Loaded (now (f .entry)) (given tops ends blocks adjustments) r (left tops ends blocks adjustments) ⌝ }
 {
-    let g = h.block_count as usize;
-    let k = h.interval_count as usize;
-    settle(
-        f,
-        h,
-        &own_tops[..g],
-        &own_ends[..k],
-        &mut own_blocks[..k],
-        tops,
-        ends,
-        blocks,
-        adjustments,
-    )
+    let count = h.block_count as usize;
+    let mut own_tops = [0u32; BLOCKS];
+    read_numbers(f, 3, count, &mut own_tops);
+    let broken = complete(f, h, &own_tops[..count], own);
+    if broken != 0 {
+        return broken;
+    }
+    write_out(f, h, own, tops, ends, blocks, adjustments);
+    0
 }
 
 // A file of one block and one interval, whose adjustment is 0.
@@ -204,22 +151,11 @@ fn load_alone(
     if refusal != 0 {
         return refusal;
     }
-    write_out(
-        f,
-        h,
-        &own_tops,
-        &own_ends,
-        &own_adjustments,
-        tops,
-        ends,
-        blocks,
-        adjustments,
-    );
+    write_out(f, h, &own_adjustments, tops, ends, blocks, adjustments);
     0
 }
 
-// The intervals of a file that small arrays do for, and middle ones: an array of one's own is cleared as far as no number is
-// read into it.
+// The intervals of a file that a small array does for, and a middle one: an array of one's own is cleared.
 const FEW: usize = 128;
 
 const SOME: usize = 512;
@@ -237,21 +173,8 @@ fn load_few(
     requires { ⌜ h .«interval_count» ≤ 128 ⌝ }
     ensures { λ r. ⌜ Loaded (now (f .entry)) (given tops ends blocks adjustments) r (left tops ends blocks adjustments) ⌝ }
 {
-    let mut own_tops = [0u32; BLOCKS];
-    let mut own_ends = [0u32; FEW];
-    let mut own_blocks = [0u32; FEW];
-    decode(f, h, &mut own_tops, &mut own_ends, &mut own_blocks);
-    load_by(
-        f,
-        h,
-        &own_tops,
-        &own_ends,
-        &mut own_blocks,
-        tops,
-        ends,
-        blocks,
-        adjustments,
-    )
+    let mut own = [0u32; FEW];
+    load_by(f, h, &mut own, tops, ends, blocks, adjustments)
 }
 
 // A file of some more.
@@ -267,21 +190,8 @@ fn load_some(
     requires { ⌜ h .«interval_count» ≤ 512 ⌝ }
     ensures { λ r. ⌜ Loaded (now (f .entry)) (given tops ends blocks adjustments) r (left tops ends blocks adjustments) ⌝ }
 {
-    let mut own_tops = [0u32; BLOCKS];
-    let mut own_ends = [0u32; SOME];
-    let mut own_blocks = [0u32; SOME];
-    decode(f, h, &mut own_tops, &mut own_ends, &mut own_blocks);
-    load_by(
-        f,
-        h,
-        &own_tops,
-        &own_ends,
-        &mut own_blocks,
-        tops,
-        ends,
-        blocks,
-        adjustments,
-    )
+    let mut own = [0u32; SOME];
+    load_by(f, h, &mut own, tops, ends, blocks, adjustments)
 }
 
 // A file of any number of intervals.
@@ -296,24 +206,11 @@ fn load_many(
     requires { ⌜ Opened (now f) h (arraysNow tops ends blocks adjustments) ⌝ }
     ensures { λ r. ⌜ Loaded (now (f .entry)) (given tops ends blocks adjustments) r (left tops ends blocks adjustments) ⌝ }
 {
-    let mut own_tops = [0u32; BLOCKS];
-    let mut own_ends = [0u32; INTERVALS];
-    let mut own_blocks = [0u32; INTERVALS];
-    decode(f, h, &mut own_tops, &mut own_ends, &mut own_blocks);
-    load_by(
-        f,
-        h,
-        &own_tops,
-        &own_ends,
-        &mut own_blocks,
-        tops,
-        ends,
-        blocks,
-        adjustments,
-    )
+    let mut own = [0u32; INTERVALS];
+    load_by(f, h, &mut own, tops, ends, blocks, adjustments)
 }
 
-// A file by arrays of its size.
+// A file by an array of its size.
 fn load_sized(
     f: &[u8],
     h: Header,

@@ -6,11 +6,11 @@ use mathlib.Core.List.{List, [], _∷_, _++_}
 use lib.Bits.{bitOr}
 use lib.Dec.{eqb}
 use lib.ListN.{length, getD}
-use Rattle.model.specs.Basics.{from, before, all}
+use Rattle.model.specs.Basics.{before, all}
 use Rattle.model.specs.Limits.{maxBlocks}
-use Rattle.model.specs.Table.{Arrays, arrays, table, over}
+use Rattle.model.specs.Table.{Arrays, arrays, table}
 use Rattle.model.specs.Place.{held}
-use Rattle.model.specs.Refusal.{Test, first, topsWrong, endsWrong, blocksWrong, holdingsWrong, adjustmentOf, adjustmentsWrong}
+use Rattle.model.specs.Refusal.{Test, topsWrong, endsWrong, blocksWrong, holdingsWrong, adjustmentOf, adjustmentsWrong}
 use Rattle.model.specs.declared.table.Header.{Header}
 
 -- 11: counts within their limits, and arrays that have them
@@ -22,12 +22,9 @@ pub record Counted (h : Header) (tops ends blocks : List ℕ) : Type 0 where
   pub endsLong : h .«interval_count» ≤ length ends
   pub blocksLong : h .«interval_count» ≤ length blocks
 
--- the tests of 12 to 14, and with that of 15: those that a lent table and a file share
+-- the tests of 12 to 14
 unfoldable pub layoutTests : Header → List ℕ → List ℕ → List ℕ → List Test
 layoutTests h tops ends blocks = (12, topsWrong h tops) ∷ (13, endsWrong h ends) ∷ (14, blocksWrong h blocks) ∷ []
-
-unfoldable pub arrayTests : Header → Arrays → List Test
-arrayTests h a = layoutTests h (a .tops) (a .ends) (a .blocks) ++ ((15, holdingsWrong h a) ∷ [])
 
 -- the tests of 12 to 16
 unfoldable pub ruleTests : Header → Arrays → List Test
@@ -79,9 +76,3 @@ Meets ends blocks adjustments i start sums r sums′ =
     (h : Header) → IntervalsRight h ends blocks → i < h .«interval_count» → (bad : ℕ)
     → Walked h (arrays [] ends blocks adjustments) i start sums bad
     → Walked h (arrays [] ends blocks adjustments) (i + 1) (getD ends i 0) sums′ (bitOr bad r)
-
--- what rules 12 to 15 say of arrays without adjustments; where they pass, `left` has the adjustments over the first of `old`
-pub record Completed (h : Header) (tops ends blocks old : List ℕ) (r : ℕ) (left : List ℕ) : Type 0 where
-  pub answer : r ≡ first (arrayTests h (arrays tops ends blocks []))
-  pub adjusted
-      : r ≡ 0 → left ≡ over (from (adjustmentOf h (arrays [] ends blocks [])) 0 (h .«interval_count»)) old

@@ -13,9 +13,8 @@ ghost use mathlib.Core.List.{List, [], _∷_};
 ghost use Prim.Native.Nat.{ℕ, _≤_, _<_};
 ghost use lib.ListN.{length, getD, replicate};
 ghost use Rattle.model.specs.Lent.{given};
-ghost use Rattle.model.specs.Basics.{from};
 ghost use Rattle.model.specs.Limits.{maxBlocks};
-ghost use Rattle.model.specs.Table.{arrays, over};
+ghost use Rattle.model.specs.Table.{arrays};
 ghost use Rattle.model.specs.Refusal.{
   outside,
   rises,
@@ -25,12 +24,11 @@ ghost use Rattle.model.specs.Refusal.{
   endsWrong,
   blocksWrong,
   holdingsWrong,
-  adjustmentOf,
   adjustmentsWrong,
   first,
 };
 ghost use Rattle.model.specs.Calls.{tableTests};
-ghost use Rattle.soundness.specs.Passed.{Counted, layoutTests, ruleTests, alone, TopsRight, IntervalsRight, Held, Walked, Walks, Meets, Completed};
+ghost use Rattle.soundness.specs.Passed.{Counted, layoutTests, ruleTests, alone, TopsRight, IntervalsRight, Held, Walked, Walks, Meets};
 
 // Whether x is 0 or above its limit.
 fn is_outside(limit: u32, x: u32) -> bool
@@ -96,7 +94,7 @@ fn rising(xs: &[u32], n: usize) -> bool
 }
 
 // 12: tops that don't rise strictly, a first top of 0, a last top above its limit or above B.
-fn tops_wrong(h: Header, tops: &[u32]) -> bool
+pub fn tops_wrong(h: Header, tops: &[u32]) -> bool
     requires { ⌜ (1 ≤ h .«block_count») × (h .«block_count» ≤ length (now tops)) ⌝ }
     ensures { λ r. ⌜ r ≡ topsWrong h (now (tops .entry)) ⌝ }
 {
@@ -250,7 +248,7 @@ fn summed(h: Header, ends: &[u32], blocks: &[u32]) -> [u32; BLOCKS]
 }
 
 // 15: a block whose intervals hold another number than its due. `sums` is what each block holds.
-fn holdings_wrong(h: Header, tops: &[u32], sums: &[u32; BLOCKS]) -> bool
+pub fn holdings_wrong(h: Header, tops: &[u32], sums: &[u32; BLOCKS]) -> bool
     requires { ⌜ TopsRight h (now tops) ⌝ }
     ensures { λ r.
         ⌜
@@ -351,60 +349,4 @@ pub fn check(h: Header, tops: &[u32], ends: &[u32], blocks: &[u32], adjustments:
         }
     }
     judged(h, tops, ends, blocks, adjustments)
-}
-
-// Writes each interval's adjustment over its block: its start less what its block holds before it. `sums` is then what each
-// block holds. Two intervals a turn, so that adjustments are stored in pairs.
-fn adjust(h: Header, ends: &[u32], blocks: &mut [u32], sums: &mut [u32; BLOCKS])
-    requires { ⌜ (IntervalsRight h (now ends) (now blocks)) × (now sums ≡ replicate maxBlocks 0) ⌝ }
-    ensures { λ _. ⌜ (Held h (now (ends .entry)) (now (blocks .entry)) (now (sums .exit)))
-        × (now (blocks .exit)
-        ≡ over (from (adjustmentOf h (arrays [] (now (ends .entry)) (now (blocks .entry)) [])) 0 (h .«interval_count»))
-        (now (blocks .entry))) ⌝ }
-{
-    let mut start: u32 = 0;
-    let mut i: usize = 0;
-    while i + 1 < h.interval_count as usize {
-        let middle = ends[i];
-        let end = ends[i + 1];
-        let block = blocks[i] as usize;
-        let other = blocks[i + 1] as usize;
-        let adjustment = start - sums[block];
-        sums[block] = middle - adjustment;
-        let next = middle - sums[other];
-        sums[other] = end - next;
-        blocks[i] = adjustment;
-        blocks[i + 1] = next;
-        start = end;
-        i += 2;
-    }
-    if i == h.interval_count as usize {
-        return;
-    }
-    let end = ends[i];
-    let block = blocks[i] as usize;
-    let adjustment = start - sums[block];
-    sums[block] = end - adjustment;
-    blocks[i] = adjustment;
-}
-
-// The number of the first of rules 12 to 15 that arrays without adjustments break, or 0. Where it is 0, the adjustments are
-// worked out, and written over the blocks.
-pub fn complete(h: Header, tops: &[u32], ends: &[u32], blocks: &mut [u32]) -> u32
-    requires { ⌜ Counted h (now tops) (now ends) (now blocks) ⌝ }
-    ensures { λ r.
-        ⌜
-        Completed h (now (tops .entry)) (now (ends .entry)) (now (blocks .entry)) (now (blocks .entry)) r (now (blocks .exit))
-        ⌝ }
-{
-    let broken = layout_refusal(h, tops, ends, blocks);
-    if broken != 0 {
-        return broken;
-    }
-    let mut sums = [0u32; BLOCKS];
-    adjust(h, ends, blocks, &mut sums);
-    if holdings_wrong(h, tops, &sums) {
-        return 15;
-    }
-    0
 }

@@ -1,10 +1,12 @@
 -- `file::load::load_alone` meets its contract: the decoded arrays are the file's, and an adjustment of 0 completes them. Assumes nothing.
 use mathlib.Core.Path.{_≡_}
+use mathlib.Core.List.{[]}
 use native.Mathlib.Omega.{arith}
+use Rattle.model.specs.Table.{arrays}
 use Rattle.model.proofs.Tables.{length-from}
 use Rattle.soundness.specs.Passed.{alone}
 use Rattle.file.specs.Loading.{fileArrays}
-use Rattle.file.proofs.Passed.{filled, decoded-counted, decoded-long, alone-completed, loaded-refused, loaded-accepted}
+use Rattle.file.proofs.Passed.{filled, alone-completed, loaded-refused, loaded-accepted}
 use borrow.Author.Needs.{needs}
 use Rattle.file.proofs.load.load_alone.Statement.{statement}
 use Rattle.file.proofs.load.load_alone.Tie as tie
@@ -20,14 +22,15 @@ entry c = c .before .before .before .before .before .before .before .before .bef
 same
     : (c : tie.After-decode)
     → let own = c .decode .last .1 .1 in
-    let a = fileArrays (entry c .args .f .now) (alone (entry c .args .buckets)) in
-    (own .0 ≡ a .tops) × (own .1 .0 ≡ a .ends) × (own .1 .1 .0 ≡ a .blocks)
+    arrays (own .0) (own .1 .0) (own .1 .1 .0) [] ≡ fileArrays (entry c .args .f .now) (alone (entry c .args .buckets))
 same c =
-    let d = c .decode .ensures in (
-      filled _ _ _ (d .0) (length-from _ _ _),
-      filled _ _ _ (d .1 .0) (length-from _ _ _),
-      filled _ _ _ (d .1 .1) (length-from _ _ _),
-    )
+    let d = c .decode .ensures in
+    λ i.
+    arrays
+    (filled _ _ _ (d .0) (length-from _ _ _) i)
+    (filled _ _ _ (d .1 .0) (length-from _ _ _) i)
+    (filled _ _ _ (d .1 .1) (length-from _ _ _) i)
+    []
 
 slice-aggregate-decode : tie.Need-slice-aggregate-decode
 slice-aggregate-decode c = search needs
@@ -54,31 +57,19 @@ slice-aggregate-judged-alone-4 : tie.Need-slice-aggregate-judged-alone-4
 slice-aggregate-judged-alone-4 c = search needs
 
 judged-alone-requires : tie.Need-judged-alone-requires
-judged-alone-requires c κs =
-    let k = c .before .before .before .before .before .before .before in
-    let s = same k in (decoded-counted _ _ _ (entry k .pre) _ _ _ (s .0) (s .1) (s .2), omega arith)
+judged-alone-requires c κs = search needs
 
 returns : tie.Need-returns
 returns c =
     let k = decoding (c .before) in
-    let s = same k in
-    loaded-refused _ _ _ (entry k .pre) _ _ _ (s .0) (s .1) (s .2) _ _ _
-    (alone-completed _ _ _ _ _ _ (omega arith) (c .before .judged-alone .ensures)) _ (c .if1 .taken)
+    loaded-refused _ _ _ (entry k .pre) _ _ _
+    (alone-completed _ _ _ _ _ _ _ (same k) (omega arith) (c .before .judged-alone .ensures)) _ (c .if1 .taken)
 
 slice-aggregate-write-out : tie.Need-slice-aggregate-write-out
 slice-aggregate-write-out c = search needs
 
-slice-aggregate-write-out-2 : tie.Need-slice-aggregate-write-out-2
-slice-aggregate-write-out-2 c = search needs
-
-slice-aggregate-write-out-3 : tie.Need-slice-aggregate-write-out-3
-slice-aggregate-write-out-3 c = search needs
-
 write-out-requires : tie.Need-write-out-requires
-write-out-requires c κs =
-    let k = decoding (c .before .before .before .before .before .before .before .before) in
-    let s = same k in
-    let long = decoded-long _ _ _ (entry k .pre) _ _ _ (s .0) (s .1) (s .2) in (entry k .pre, (long .0, long .1, omega arith))
+write-out-requires c κs = search needs
 
 same-length : tie.Need-same-length
 same-length c = search needs
@@ -95,11 +86,10 @@ same-length-4 c = search needs
 returns-2 : tie.Need-returns-2
 returns-2 c =
     let written = c .before .before .before .before .before .before .before .before in
-    let passed = written .before .before .before .before .before .before .before .before in
+    let passed = written .before .before .before .before .before .before in
     let k = decoding (passed .before) in
-    let s = same k in
-    loaded-accepted _ _ _ (entry k .pre) _ _ _ (s .0) (s .1) (s .2) _ _ _
-    (alone-completed _ _ _ _ _ _ (omega arith) (passed .before .judged-alone .ensures)) _ (passed .if1 .left) _
+    loaded-accepted _ _ _ (entry k .pre) _ _ _
+    (alone-completed _ _ _ _ _ _ _ (same k) (omega arith) (passed .before .judged-alone .ensures)) _ (passed .if1 .left) _
     (written .write-out .ensures)
 
 pub load-alone-spec : {M : Type 1} → statement M
@@ -117,8 +107,6 @@ load-alone-spec =
     judged-alone-requires
     returns
     slice-aggregate-write-out
-    slice-aggregate-write-out-2
-    slice-aggregate-write-out-3
     write-out-requires
     same-length
     same-length-2

@@ -1,47 +1,55 @@
--- `file::load::load_by` meets its contract: the first entries of the arrays are the file's. Assumes nothing.
-use mathlib.Core.Path.{sym, _∙_, ap}
-use native.Mathlib.Omega.{arith}
-use lib.ListN.{length, length-take}
+-- `file::load::load_by` meets its contract: rules 12 to 15, then the table is written. Assumes nothing.
+use mathlib.Core.Path.{_≡_, sym, _∙_, ap}
+use lib.ListN.{length, take}
 use Rattle.model.proofs.Tables.{length-from}
+use Rattle.file.specs.Loading.{fileArrays}
+use Rattle.file.proofs.Passed.{taken, loaded-refused, loaded-accepted}
 use borrow.Author.Needs.{needs}
 use Rattle.file.proofs.load.load_by.Statement.{statement}
 use Rattle.file.proofs.load.load_by.Tie as tie
 
-cast-g : tie.Need-cast-g
-cast-g c = search needs
+-- the function's entry, from after the reading of the tops, and from after the rules
+abbrev entry : tie.After-read-numbers → tie.Start
+entry c = c .before .before .before .before .before .before .before .before .before
 
-cast-k : tie.Need-cast-k
-cast-k c = search needs
+abbrev begun : tie.After-complete → tie.Start
+begun c = entry (c .before .before .before .before)
 
--- the function's entry, from after the first part
-abbrev entry : tie.After-settle-arg → tie.Start
-entry c = c .before .before .before .before .before .before .before .before .before .before .before
+-- the tops read are the file's
+read
+    : (c : tie.After-read-numbers)
+    → let a = entry c .args in take (a .h .«block_count») (c .read-numbers .last .1 .1 .1 .0) ≡ fileArrays (a .f .now) (a .h) .tops
+read c = taken _ _ _ _ (c .read-numbers .ensures) (length-from _ _ _)
 
-slice-aggregate-settle : tie.Need-slice-aggregate-settle
-slice-aggregate-settle c = sym (ap length (entry c .pre .1 .topsRead) ∙ length-from _ _ _)
+cast-count : tie.Need-cast-count
+cast-count c = search needs
 
-slice-aggregate-settle-2 : tie.Need-slice-aggregate-settle-2
-slice-aggregate-settle-2 c = sym (ap length (entry (c .before) .pre .1 .endsRead) ∙ length-from _ _ _)
+slice-aggregate-read-numbers : tie.Need-slice-aggregate-read-numbers
+slice-aggregate-read-numbers c = search needs
 
-slice-relend-prefix-settle : tie.Need-slice-relend-prefix-settle
-slice-relend-prefix-settle c =
-    let start = entry (c .before) in
-    omega (
-      arith,
-      length-take (start .args .h .«interval_count») (start .args .own-blocks .now),
-      ap length (start .pre .1 .blocksRead) ∙ length-from _ _ _,
-    )
+read-numbers-requires : tie.Need-read-numbers-requires
+read-numbers-requires c κs = search needs
 
-slice-aggregate-settle-3 : tie.Need-slice-aggregate-settle-3
-slice-aggregate-settle-3 c = sym (ap length (entry (c .before .before) .pre .1 .blocksRead) ∙ length-from _ _ _)
+array-share-prefix-own-tops : tie.Need-array-share-prefix-own-tops
+array-share-prefix-own-tops c = search needs
 
-settle-requires : tie.Need-settle-requires
-settle-requires c κs =
-    let start = entry (c .before .before .before .before .before .before) in
-    let own = start .pre .1 in (start .pre .0, (own .topsRead, own .endsRead, own .blocksRead))
+slice-aggregate-complete : tie.Need-slice-aggregate-complete
+slice-aggregate-complete c = sym (ap length (read (c .before .before)) ∙ length-from _ _ _)
+
+complete-requires : tie.Need-complete-requires
+complete-requires c κs =
+    let k = c .before .before .before in (entry k .pre .0 .counted, read k, entry k .pre .1)
 
 same-length : tie.Need-same-length
 same-length c = search needs
+
+returns : tie.Need-returns
+returns c =
+    let ruled = c .before .before .before in
+    loaded-refused _ _ _ (begun ruled .pre .0) _ _ _ (ruled .complete .ensures) _ (c .if1 .taken)
+
+write-out-requires : tie.Need-write-out-requires
+write-out-requires c κs = search needs
 
 same-length-2 : tie.Need-same-length-2
 same-length-2 c = search needs
@@ -55,23 +63,32 @@ same-length-4 c = search needs
 same-length-5 : tie.Need-same-length-5
 same-length-5 c = search needs
 
-returns : tie.Need-returns
-returns c = c .before .before .before .before .before .before .before .before .before .before .settle .ensures
+same-length-6 : tie.Need-same-length-6
+same-length-6 c = search needs
+
+returns-2 : tie.Need-returns-2
+returns-2 c =
+    let written = c .before .before .before .before .before .before .before .before in
+    let passed = written .before .before .before .before .before .before in
+    let ruled = passed .before .before .before in
+    loaded-accepted _ _ _ (begun ruled .pre .0) _ _ _ (ruled .complete .ensures) _ (passed .if1 .left) _ (written .write-out .ensures)
 
 pub load-by-spec : {M : Type 1} → statement M
 load-by-spec =
     tie.close
     (tie.spec
-    cast-g
-    cast-k
-    slice-aggregate-settle
-    slice-aggregate-settle-2
-    slice-relend-prefix-settle
-    slice-aggregate-settle-3
-    settle-requires
+    cast-count
+    slice-aggregate-read-numbers
+    read-numbers-requires
+    array-share-prefix-own-tops
+    slice-aggregate-complete
+    complete-requires
     same-length
+    returns
+    write-out-requires
     same-length-2
     same-length-3
     same-length-4
     same-length-5
-    returns)
+    same-length-6
+    returns-2)

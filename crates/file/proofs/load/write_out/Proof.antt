@@ -6,14 +6,14 @@ use borrow.Author.Needs.{needs}
 use Rattle.file.proofs.load.write_out.Statement.{statement}
 use Rattle.file.proofs.load.write_out.Tie as tie
 
--- the function's entry, from after the first copy, and from one copy to the one before it
-abbrev entry : tie.After-copy → tie.Start
-entry c = c .before .before .before .before .before .before .before .before .before .before .before .before
+-- the function's entry, from before the first copy, and from one copy to the one before it
+abbrev entry : tie.After-copy-numbers-arg → tie.Start
+entry c = c .before .before .before .before .before .before .before .before .before
 
-abbrev after2 : tie.After-copy2 → tie.After-copy
+abbrev after2 : tie.After-copy-numbers-arg2 → tie.After-copy-numbers-arg
 after2 c = c .before .before .before .before
 
-abbrev after3 : tie.After-copy-numbers → tie.After-copy2
+abbrev after3 : tie.After-copy-numbers-arg3 → tie.After-copy-numbers-arg2
 after3 c = c .before .before .before .before
 
 -- the arrays have room
@@ -28,49 +28,39 @@ cast-block-count c = search needs
 cast-interval-count : tie.Need-cast-interval-count
 cast-interval-count c = search needs
 
-copy-requires : tie.Need-copy-requires
-copy-requires c κs =
-    let start = c .before .before .before .before .before .before .before .before .before .before .before in
+copy-numbers-requires : tie.Need-copy-numbers-requires
+copy-numbers-requires c κs =
+    let start = entry c in
     let d = start .pre .0 .counted in
-    let l = start .pre .1 in
-    let r = room start in
-    omega arith
-
-copy-requires-2 : tie.Need-copy-requires-2
-copy-requires-2 c κs =
-    let start = entry (c .before .before .before) in
-    let d = start .pre .0 .counted in
-    let l = start .pre .1 in
     let r = room start in
     omega arith
 
 add-copy-numbers : tie.Need-add-copy-numbers
-add-copy-numbers c =
-    let start = entry (after2 (c .before .before)) in
+add-copy-numbers c = search needs
+
+copy-numbers-requires-2 : tie.Need-copy-numbers-requires-2
+copy-numbers-requires-2 c κs =
+    let start = entry (after2 c) in
     let d = start .pre .0 .counted in
-    let l = start .pre .1 in
     let r = room start in
     omega arith
 
 add-copy-numbers-2 : tie.Need-add-copy-numbers-2
-add-copy-numbers-2 c =
-    let start = entry (after2 (c .before .before)) in
+add-copy-numbers-2 c = search needs
+
+add-copy-numbers-3 : tie.Need-add-copy-numbers-3
+add-copy-numbers-3 c = search needs
+
+copy-numbers-requires-3 : tie.Need-copy-numbers-requires-3
+copy-numbers-requires-3 c κs =
+    let start = entry (after2 (after3 c)) in
     let d = start .pre .0 .counted in
-    let l = start .pre .1 in
     let r = room start in
     omega arith
 
-copy-numbers-requires : tie.Need-copy-numbers-requires
-copy-numbers-requires c κs =
-    let start = entry (after2 (c .before .before .before)) in
-    let d = start .pre .0 .counted in
-    let l = start .pre .1 in
-    let r = room start in
-    omega arith
-
-copy-requires-3 : tie.Need-copy-requires-3
-copy-requires-3 c κs =
-    let start = entry (after2 (after3 (c .before .before .before))) in
+copy-requires : tie.Need-copy-requires
+copy-requires c κs =
+    let start = entry (after2 (after3 (c .before .before .before .before))) in
     let d = start .pre .0 .counted in
     let l = start .pre .1 in
     let r = room start in
@@ -92,9 +82,9 @@ returns : tie.Need-returns
 returns c =
     let c4 = c .before .before in
     let c3 = c4 .before .before .before .before in
-    let c2 = after3 c3 in
-    let c1 = after2 c2 in
-    λ i. arrays (c1 .copy .ensures i) (c2 .copy2 .ensures i) (c3 .copy-numbers .ensures i) (c4 .copy3 .ensures i)
+    let c2 = c3 .before .before .before .before in
+    let c1 = c2 .before .before .before .before in
+    λ i. arrays (c1 .copy-numbers .ensures i) (c2 .copy-numbers2 .ensures i) (c3 .copy-numbers3 .ensures i) (c4 .copy .ensures i)
 
 pub write-out-spec : {M : Type 1} → statement M
 write-out-spec =
@@ -102,12 +92,13 @@ write-out-spec =
     (tie.spec
     cast-block-count
     cast-interval-count
-    copy-requires
-    copy-requires-2
-    add-copy-numbers
-    add-copy-numbers-2
     copy-numbers-requires
-    copy-requires-3
+    add-copy-numbers
+    copy-numbers-requires-2
+    add-copy-numbers-2
+    add-copy-numbers-3
+    copy-numbers-requires-3
+    copy-requires
     same-length
     same-length-2
     same-length-3
