@@ -1,10 +1,12 @@
 -- One turn of working out a table's adjustments, from what rules 11 to 14 show of it. Assumes nothing.
-use Prim.Native.Nat.{ℕ, _+_, _≤_, _<_}
+use Prim.Native.Nat.{ℕ, _+_, _-_, _≤_, _<_}
 use mathlib.Core.Path.{_≡_, sym, _∙_, ap}
 use mathlib.Core.List.{List, []}
+use native.Mathlib.Decide.{ℕ-discrete}
 use native.Mathlib.Nat.{zero-add}
 use native.Mathlib.Omega.{arith}
 use lib.ListN.{length, getD, set, replicate}
+use lib.Seq.{getD-set-same, getD-set-other}
 use Rattle.model.specs.Basics.{from, before}
 use Rattle.model.specs.Limits.{maxBlocks}
 use Rattle.model.specs.Table.{arrays, over}
@@ -69,3 +71,21 @@ module _ (h : Header) (tops ends blocks : List ℕ) where
         },
         put-over (s .put) long ∙ ap (λ k. over (from (adjustmentOf h (arrays tops ends blocks [])) 0 k) old) all,
       )
+
+-- the second of two intervals, of block b′, by the sums before the first, of block b and adjustment a, which ends at d
+pub second-adjustment
+    : (sums : List ℕ) (b b′ start d a o : ℕ) → b < length sums → (b ≡ b′ → o ≡ start) → ((b ≡ b′ → ⊥) → o ≡ d)
+    → a + getD sums b 0 ≡ start → start < d → getD (set sums b (d - a)) b′ 0 ≤ d
+    → (getD sums b′ 0 ≤ o) × (o - getD sums b′ 0 + getD (set sums b (d - a)) b′ 0 ≡ d)
+second-adjustment sums b b′ start d a o l one two r m w =
+    elim (ℕ-discrete b b′) [
+      | yes e ↦
+          let first = one e in
+          let cell = ap (λ k. getD sums k 0) e in
+          let stored = ap (λ k. getD (set sums b (d - a)) k 0) (sym e) ∙ getD-set-same sums b (d - a) 0 l in
+          (omega (arith, first, cell), omega (arith, first, cell, stored))
+      | no n ↦
+          let own = two n in
+          let kept = getD-set-other sums b b′ (d - a) 0 (λ z. n (sym z)) in
+          (omega (arith, own, kept), omega (arith, own, kept))
+    ]

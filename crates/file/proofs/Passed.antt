@@ -16,14 +16,13 @@ use Rattle.model.specs.Saved.{number, savedLength, loadedHeader, readArrays, lo
 use Rattle.model.specs.Calls.{noHeader, arraysAfter, loadAnswer, loadTests}
 use Rattle.model.specs.declared.table.Header.{Header}
 use Rattle.model.specs.declared.reply.LoadReply.{LoadReply}
-use Rattle.model.proofs.Refusals.{or-left, or-right, first-clear, first-skip, first-here, accepted, refused}
+use Rattle.model.proofs.Refusals.{or-left, or-right, first-skip, first-here, accepted, refused}
 use Rattle.model.proofs.Tables.{length-from, length-over}
 use Rattle.model.proofs.Rules.{blocks-inside, intervals-inside}
 use Rattle.model.proofs.Holdings.{holdings-same}
 use Rattle.model.proofs.Loads.{written-whole}
 use Rattle.file.specs.Loading.{fileArrays, Counted, Opened, arrayTests, Completed, outOver, loadedOver, Loaded}
 use Rattle.soundness.specs.Passed.{Counted as Rule11, layoutTests, ruleTests, alone}
-use Rattle.soundness.proofs.Passed.{Laid}
 
 module _ (f : List ℕ) (h : Header) (e : h ≡ loadedHeader f) where
   -- rule 11 passed
@@ -110,15 +109,6 @@ file-counted f h c =
       endsLong = omega (arith, length-from (number f) (3 + h .«block_count») (h .«interval_count»));
       blocksLong = omega (arith, length-from (number f) (3 + h .«block_count» + h .«interval_count») (h .«interval_count»));
     }
-
--- 12 to 14 passed
-pub file-laid
-    : (h : Header) (a : Arrays) → topsWrong h (a .tops) ≡ false
-    → first ((13, endsWrong h (a .ends)) ∷ (14, blocksWrong h (a .blocks)) ∷ []) ≡ 0 → Laid h (a .tops) (a .ends) (a .blocks)
-file-laid h a t e =
-    let u = first-clear _ _ (λ z. omega arith) e in
-    let v = first-clear _ _ (λ z. omega arith) (u .1) in
-    record { topsPass = t; endsPass = u .0; blocksPass = v .0 }
 
 module _
     (f : List ℕ) (h : Header) (out : Arrays) (o : Opened f h out)

@@ -5,13 +5,12 @@ use model::table::Header;
 use soundness::holdings_wrong;
 use soundness::tops_wrong;
 ghost use mathlib.Core.Path.{_≡_};
-ghost use mathlib.Core.List.{[], _∷_};
-ghost use Prim.Native.Nat.{ℕ, _+_, _-_, _≤_, _<_};
-ghost use lib.ListN.{length, getD, set, replicate};
+ghost use Prim.Native.Nat.{_≤_, _<_};
+ghost use lib.ListN.{length, getD, replicate};
 ghost use Rattle.model.specs.Basics.{from};
 ghost use Rattle.model.specs.Limits.{maxBlocks};
 ghost use Rattle.model.specs.Table.{over};
-ghost use Rattle.model.specs.Refusal.{endsWrong, blocksWrong, adjustmentOf, first};
+ghost use Rattle.model.specs.Refusal.{endsWrong, blocksWrong, adjustmentOf};
 ghost use Rattle.soundness.specs.Passed.{IntervalsRight, Held};
 ghost use Rattle.file.specs.Loading.{fileArrays, Counted, Completed};
 
@@ -34,57 +33,47 @@ fn block_at(f: &[u8], h: Header, i: usize) -> u32
     )
 }
 
-// The number of the first of rules 13 and 14 that the file breaks, or 0. One walk gathers both, without a branch.
-fn intervals_refusal(f: &[u8], h: Header) -> u32
+// 13: ends that don't rise strictly, a first end of 0, or a last end other than B.
+fn ends_wrong(f: &[u8], h: Header) -> bool
     requires { ⌜ Counted (now f) h ⌝ }
-    ensures { λ r.
-        ⌜
-        r ≡ first ((13, endsWrong h (fileArrays (now (f .entry)) h .ends)) ∷ (14, blocksWrong h (fileArrays (now (f .entry)) h .blocks)) ∷ [])
-        ⌝ }
+    ensures { λ r. ⌜ r ≡ endsWrong h (fileArrays (now (f .entry)) h .ends) ⌝ }
 {
     let count = h.interval_count as usize;
     let mut rise = 0 < end_at(f, h, 0);
-    let mut below = block_at(f, h, 0) < h.block_count;
     let mut i: usize = 1;
     while i < count {
         rise = rise & (end_at(f, h, i - 1) < end_at(f, h, i));
-        below = below & (block_at(f, h, i) < h.block_count);
         i += 1;
     }
     if !rise {
-        return 13;
+        return true;
     }
-    if end_at(f, h, count - 1) != h.buckets {
-        return 13;
-    }
-    if !below {
-        return 14;
-    }
-    0
+    end_at(f, h, count - 1) != h.buckets
 }
 
-// The adjustment of an interval of block `other` right behind one of block `block`, which ends at `start` and has `adjustment`. In
-// one block both have the same, and the sum is left for the second to store: a sum that is read right after it was stored is
-// waited for.
-fn next_adjustment(
-    block: usize,
-    other: usize,
-    adjustment: u32,
-    start: u32,
-    sums: &mut [u32; BLOCKS],
-) -> u32
-    requires { ⌜
-        (block < maxBlocks) × (other < maxBlocks) × (length (now sums) ≡ maxBlocks) × (adjustment ≤ start) ×
-        (getD (set (now sums) block (start - adjustment)) other 0 ≤ start)
-        ⌝ }
-    ensures { λ r. ⌜ r + getD (set (now (sums .entry)) block (start - adjustment)) other 0 ≡ start ⌝ }
-    ensures { λ _. ⌜ ((v : ℕ) → set (now (sums .exit)) other v ≡ set (set (now (sums .entry)) block (start - adjustment)) other v) ⌝ }
+// 14: an interval's block not below G.
+fn blocks_wrong(f: &[u8], h: Header) -> bool
+    requires { ⌜ Counted (now f) h ⌝ }
+    ensures { λ r. ⌜ r ≡ blocksWrong h (fileArrays (now (f .entry)) h .blocks) ⌝ }
+{
+    let mut below = true;
+    let mut i: usize = 0;
+    while i < h.interval_count as usize {
+        below = below & (block_at(f, h, i) < h.block_count);
+        i += 1;
+    }
+    !below
+}
+
+// What the second of two intervals is adjusted from, by what its block holds before the first: its own start, or the start of the
+// first where both are of one block. The compiler makes no branch of it, whose way would be guessed wrong on a file not just seen.
+fn origin(block: usize, other: usize, start: u32, middle: u32) -> u32
+    ensures { λ r. ⌜ (block ≡ other → r ≡ start) × ((block ≡ other → ⊥) → r ≡ middle) ⌝ }
 {
     if block == other {
-        return adjustment;
+        return start;
     }
-    sums[block] = start - adjustment;
-    start - sums[other]
+    middle
 }
 
 // Writes the adjustments over the first entries of an array: an interval's start less what its block holds before it. `sums`
@@ -107,7 +96,8 @@ fn adjust(f: &[u8], h: Header, out: &mut [u32], sums: &mut [u32; BLOCKS])
         let block = block_at(f, h, i) as usize;
         let other = block_at(f, h, i + 1) as usize;
         let adjustment = start - sums[block];
-        let next = next_adjustment(block, other, adjustment, middle, sums);
+        let next = origin(block, other, start, middle) - sums[other];
+        sums[block] = middle - adjustment;
         sums[other] = end - next;
         out[i] = adjustment;
         out[i + 1] = next;
@@ -134,9 +124,11 @@ pub fn complete(f: &[u8], h: Header, tops: &[u32], out: &mut [u32]) -> u32
     if tops_wrong(h, tops) {
         return 12;
     }
-    let broken = intervals_refusal(f, h);
-    if broken != 0 {
-        return broken;
+    if ends_wrong(f, h) {
+        return 13;
+    }
+    if blocks_wrong(f, h) {
+        return 14;
     }
     let mut sums = [0u32; BLOCKS];
     adjust(f, h, out, &mut sums);

@@ -5,9 +5,10 @@ use mathlib.Core.Path.{_≡_, refl}
 use mathlib.Core.List.{List}
 use native.Mathlib.Omega.{arith}
 use lib.ListN.{length, getD, set, length-set}
+use borrow.Author.Needs.{needs}
 use Rattle.model.proofs.Entries.{put-length}
 use Rattle.file.specs.Loading.{fileArrays}
-use Rattle.file.proofs.Adjusted.{Adjusted, Turn, adjusted-none, adjusted-turn, adjusted-next, adjusted-all}
+use Rattle.file.proofs.Adjusted.{Adjusted, Turn, adjusted-none, adjusted-turn, adjusted-next, adjusted-all, second-adjustment}
 use Rattle.file.proofs.rules.adjust.Statement.{statement}
 use Rattle.file.proofs.rules.adjust.Tie as tie
 
@@ -103,25 +104,54 @@ second c =
     let k = c .before in
     adjusted-turn _ _ _ _ (entry (head k) .pre .1) _ _ _ _ _ (after k) _ _ (c .block-at2 .ensures) (k .before .end-at2 .ensures) (omega arith)
 
-next-adjustment-requires : tie.Need-next-adjustment-requires Inv-loop μ-loop
-next-adjustment-requires c κs =
+origin-requires : tie.Need-origin-requires Inv-loop μ-loop
+origin-requires c κs = search needs
+
+-- its adjustment, by the sums before the first
+other
+    : (c : tie.After-origin Inv-loop μ-loop)
+    → let k = c .before .before in
+    let cell = getD (head (k .before) .loop .sums) (k .block-at2 .result) 0 in
+    let d = k .before .before .before .end-at .result in
+    (cell ≤ c .origin .result) × (c .origin .result - cell + getD (then (k .before)) (k .block-at2 .result) 0 ≡ d)
+other c =
     let k = c .before .before in
+    let l = head (k .before) .loop in
     let t = here (k .before) in
-    let u = second k in
-    (t .block, u .block, head (k .before) .loop .inv .1 .held .cells, omega arith, u .within)
+    second-adjustment (l .sums) (k .before .block-at .result) (k .block-at2 .result) (l .start) (k .before .before .before .end-at .result)
+    (first (k .before)) (c .origin .result) (omega (arith, l .inv .1 .held .cells)) (c .origin .ensures .0) (c .origin .ensures .1)
+    (omega arith) (t .later) (second k .within)
+
+mul-next : tie.Need-mul-next Inv-loop μ-loop
+mul-next c = let u = second (c .before .before) in omega arith
+
+element-copy-out-next : tie.Need-element-copy-out-next Inv-loop μ-loop
+element-copy-out-next c = let u = second (c .before .before) in omega arith
+
+sub-next : tie.Need-sub-next Inv-loop μ-loop
+sub-next c = omega (arith, other (c .before) .0)
 
 sub-sums : tie.Need-sub-sums Inv-loop μ-loop
-sub-sums c = let u = second (c .before .before .before) in omega (arith, c .next-adjustment .ensures .0)
+sub-sums c = let t = here (c .before .before .before .before) in omega arith
 
 mul-sums : tie.Need-mul-sums Inv-loop μ-loop
-mul-sums c = let u = second (c .before .before .before) in omega arith
+mul-sums c = let t = here (c .before .before .before .before) in omega arith
 
 element-write-sums : tie.Need-element-write-sums Inv-loop μ-loop
-element-write-sums c = let u = second (c .before .before .before) in omega arith
+element-write-sums c = let t = here (c .before .before .before .before) in omega arith
+
+sub-sums-2 : tie.Need-sub-sums-2 Inv-loop μ-loop
+sub-sums-2 c = let u = second (c .before .before .before) in omega (arith, other (c .before) .1)
+
+mul-sums-2 : tie.Need-mul-sums-2 Inv-loop μ-loop
+mul-sums-2 c = let u = second (c .before .before .before) in omega arith
+
+element-write-sums-2 : tie.Need-element-write-sums-2 Inv-loop μ-loop
+element-write-sums-2 c = let u = second (c .before .before .before) in omega arith
 
 -- the array written to keeps its length
 long
-    : (c : tie.After-next-adjustment Inv-loop μ-loop)
+    : (c : tie.After-next Inv-loop μ-loop)
     → let k = head (c .before .before .before .before) in length (k .loop .out) ≡ length (entry k .args .out .now)
 long c = put-length (head (c .before .before .before .before) .loop .inv .1 .put)
 
@@ -151,12 +181,12 @@ loop-again c =
     let k = c .before .before .before in
     let l = head (k .before) .loop in
     let u = second k in
-    let e = c .next-adjustment .ensures in
+    let e = other (c .before) in
     let two : 2 * (l .j + 1) ≡ 2 * l .j + 1 + 1 = omega arith in (
       omega arith,
       rw two
           (adjusted-next _ _ _ _ (entry (head (k .before)) .pre .1) _ _ _ _ _ (after (k .before)) _ _
-          (k .block-at2 .ensures) (k .before .before .end-at2 .ensures) (omega arith) _ _ _ (e .1 _) (e .0) (omega (arith, e .0))),
+          (k .block-at2 .ensures) (k .before .before .end-at2 .ensures) (omega arith) _ _ _ refl (e .1) (omega (arith, e .1))),
     )
 
 mul-i-2 : tie.Need-mul-i-2 Inv-loop μ-loop
@@ -199,14 +229,14 @@ element-copy-out-last c = let t = last c in omega arith
 sub-last : tie.Need-sub-last Inv-loop μ-loop
 sub-last c = let t = last (c .before) in omega arith
 
-sub-sums-2 : tie.Need-sub-sums-2 Inv-loop μ-loop
-sub-sums-2 c = let t = last (c .before) in omega arith
+sub-sums-3 : tie.Need-sub-sums-3 Inv-loop μ-loop
+sub-sums-3 c = let t = last (c .before) in omega arith
 
-mul-sums-2 : tie.Need-mul-sums-2 Inv-loop μ-loop
-mul-sums-2 c = let t = last (c .before) in omega arith
+mul-sums-3 : tie.Need-mul-sums-3 Inv-loop μ-loop
+mul-sums-3 c = let t = last (c .before) in omega arith
 
-element-write-sums-2 : tie.Need-element-write-sums-2 Inv-loop μ-loop
-element-write-sums-2 c = let t = last (c .before) in omega arith
+element-write-sums-3 : tie.Need-element-write-sums-3 Inv-loop μ-loop
+element-write-sums-3 c = let t = last (c .before) in omega arith
 
 mul-out-3 : tie.Need-mul-out-3 Inv-loop μ-loop
 mul-out-3 c = omega (arith, put-length (ended (c .before) .loop .inv .1 .put))
@@ -246,10 +276,16 @@ adjust-spec =
     mul-adjustment
     element-copy-out-adjustment
     sub-adjustment
-    next-adjustment-requires
+    origin-requires
+    mul-next
+    element-copy-out-next
+    sub-next
     sub-sums
     mul-sums
     element-write-sums
+    sub-sums-2
+    mul-sums-2
+    element-write-sums-2
     mul-out
     slice-write-out
     add-out
@@ -267,9 +303,9 @@ adjust-spec =
     mul-last
     element-copy-out-last
     sub-last
-    sub-sums-2
-    mul-sums-2
-    element-write-sums-2
+    sub-sums-3
+    mul-sums-3
+    element-write-sums-3
     mul-out-3
     slice-write-out-3
     same-length-2

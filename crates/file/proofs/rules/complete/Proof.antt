@@ -2,15 +2,15 @@
 -- Assumes nothing.
 use mathlib.Core.Path.{_≡_, refl, sym, _∙_, ap}
 use mathlib.Core.Bool.{false}
-use mathlib.Core.List.{[], _∷_}
+use mathlib.Core.List.{[]}
 use native.Mathlib.Omega.{arith}
 use borrow.Author.Needs.{needs}
 use Rattle.model.specs.Table.{Arrays, arrays}
 use Rattle.model.specs.Refusal.{topsWrong, holdingsWrong}
-use Rattle.model.proofs.Refusals.{first-none, first-here, first-skip, first-found}
+use Rattle.model.proofs.Refusals.{first-none, first-here, first-skip}
 use Rattle.soundness.proofs.Passed.{Laid, tops-right, intervals-right}
 use Rattle.file.specs.Loading.{fileArrays, arrayTests}
-use Rattle.file.proofs.Passed.{file-counted, file-laid}
+use Rattle.file.proofs.Passed.{file-counted}
 use Rattle.file.proofs.rules.complete.Statement.{statement}
 use Rattle.file.proofs.rules.complete.Tie as tie
 
@@ -34,8 +34,8 @@ returns c =
       adjusted = λ z. absurd (omega arith);
     }
 
-intervals-refusal-requires : tie.Need-intervals-refusal-requires
-intervals-refusal-requires c κs = search needs
+ends-wrong-requires : tie.Need-ends-wrong-requires
+ends-wrong-requires c κs = search needs
 
 -- rule 12 is passed
 tops-pass : (c : tie.Else1) → topsWrong (entry c .args .h) (file (entry c) .tops) ≡ false
@@ -46,34 +46,54 @@ unfolding arrayTests
 returns-2 c =
     let k = c .before in
     record {
+      answer = sym (first-skip _ _ (tops-pass (k .before)) ∙ first-here _ _ (sym (k .ends-wrong .ensures) ∙ c .if2 .taken));
+      adjusted = λ z. absurd (omega arith);
+    }
+
+blocks-wrong-requires : tie.Need-blocks-wrong-requires
+blocks-wrong-requires c κs = search needs
+
+returns-3 : tie.Need-returns-3
+unfolding arrayTests
+returns-3 c =
+    let b = c .before in
+    let e = b .before in
+    record {
       answer =
-          k .intervals-refusal .ensures
-          ∙ sym
-          (first-skip _ _ (tops-pass (k .before))
-          ∙ first-found (_ ∷ _ ∷ []) _ (λ z. c .if2 .taken (k .intervals-refusal .ensures ∙ z)));
-      adjusted = λ z. absurd (c .if2 .taken z);
+          sym
+          (first-skip _ _ (tops-pass (e .before .before))
+          ∙ first-skip _ _ (sym (e .before .ends-wrong .ensures) ∙ e .if2 .left)
+          ∙ first-here _ _ (sym (b .blocks-wrong .ensures) ∙ c .if3 .taken));
+      adjusted = λ z. absurd (omega arith);
     }
 
 -- rules 12 to 14 are passed
-passed
-    : (c : tie.Else2)
-    → let s = entry (c .before .before) in Laid (s .args .h) (file s .tops) (file s .ends) (file s .blocks)
-passed c = file-laid _ (file (entry (c .before .before))) (tops-pass (c .before .before)) (sym (c .before .intervals-refusal .ensures) ∙ c .if2 .left)
+abbrev began : tie.Else3 → tie.Start
+began c = entry (c .before .before .before .before)
+
+passed : (c : tie.Else3) → let s = began c in Laid (s .args .h) (file s .tops) (file s .ends) (file s .blocks)
+passed c =
+    let e = c .before .before in
+    record {
+      topsPass = tops-pass (e .before .before);
+      endsPass = sym (e .before .ends-wrong .ensures) ∙ e .if2 .left;
+      blocksPass = sym (c .before .blocks-wrong .ensures) ∙ c .if3 .left;
+    }
 
 adjust-requires : tie.Need-adjust-requires
 adjust-requires c κs =
     let k = c .before .before in
-    let p = entry (k .before .before) .pre in
+    let p = began k .pre in
     ((p .0, p .2, refl), intervals-right _ _ _ _ (file-counted _ _ (p .0)) (passed k))
 
 -- after the walk
-abbrev walked : tie.After-adjust → tie.Else2
+abbrev walked : tie.After-adjust → tie.Else3
 walked c = c .before .before .before
 
 holdings-wrong-requires : tie.Need-holdings-wrong-requires
 holdings-wrong-requires c κs =
     let k = walked (c .before .before .before) in
-    let p = entry (k .before .before) .pre in rw (p .1) (tops-right _ _ _ _ (file-counted _ _ (p .0)) (passed k))
+    let p = began k .pre in rw (p .1) (tops-right _ _ _ _ (file-counted _ _ (p .0)) (passed k))
 
 same-length : tie.Need-same-length
 same-length c = search needs
@@ -81,35 +101,33 @@ same-length c = search needs
 -- what rule 15 says
 fifteen
     : (c : tie.After-holdings-wrong)
-    → let s = entry (walked (c .before .before .before .before) .before .before) in
-    c .holdings-wrong .result ≡ holdingsWrong (s .args .h) (file s)
+    → let s = began (walked (c .before .before .before .before)) in c .holdings-wrong .result ≡ holdingsWrong (s .args .h) (file s)
 fifteen c =
     let k = c .before .before .before .before in
-    let s = entry (walked k .before .before) in
+    let s = began (walked k) in
     c .holdings-wrong .ensures _ _ (k .adjust .ensures .0)
     ∙ ap (λ t. holdingsWrong (s .args .h) (arrays t (file s .ends) (file s .blocks) [])) (s .pre .1)
 
-returns-3 : tie.Need-returns-3
+returns-4 : tie.Need-returns-4
 unfolding arrayTests
-returns-3 c =
-    let k = walked (c .before .before .before .before .before) in
-    let w = passed k in
+returns-4 c =
+    let w = passed (walked (c .before .before .before .before .before)) in
     record {
       answer =
           sym
           (first-skip _ _ (w .topsPass)
           ∙ first-skip _ _ (w .endsPass)
           ∙ first-skip _ _ (w .blocksPass)
-          ∙ first-here _ _ (sym (fifteen (c .before)) ∙ c .if3 .taken));
+          ∙ first-here _ _ (sym (fifteen (c .before)) ∙ c .if4 .taken));
       adjusted = λ z. absurd (omega arith);
     }
 
 same-length-2 : tie.Need-same-length-2
 same-length-2 c = search needs
 
-returns-4 : tie.Need-returns-4
+returns-5 : tie.Need-returns-5
 unfolding arrayTests
-returns-4 c =
+returns-5 c =
     let a = c .before .before .before .before .before in
     let w = passed (walked a) in
     record {
@@ -118,7 +136,7 @@ returns-4 c =
           (first-skip _ _ (w .topsPass)
           ∙ first-skip _ _ (w .endsPass)
           ∙ first-skip _ _ (w .blocksPass)
-          ∙ first-skip _ _ (sym (fifteen (c .before)) ∙ c .if3 .left)
+          ∙ first-skip _ _ (sym (fifteen (c .before)) ∙ c .if4 .left)
           ∙ first-none);
       adjusted = λ z. a .adjust .ensures .1;
     }
@@ -129,11 +147,13 @@ complete-spec =
     (tie.spec
     tops-wrong-requires
     returns
-    intervals-refusal-requires
+    ends-wrong-requires
     returns-2
+    blocks-wrong-requires
+    returns-3
     adjust-requires
     holdings-wrong-requires
     same-length
-    returns-3
+    returns-4
     same-length-2
-    returns-4)
+    returns-5)
