@@ -470,16 +470,9 @@ plain_save(struct irr_header header,
 	return (struct irr_save_reply){0, (uint32_t)saved_length(header)};
 }
 
-/* The adjustment of an interval, whose buckets its block then holds too. */
-static inline uint32_t adjust_one(uint32_t block, uint32_t start, uint32_t end, uint32_t sums[])
-{
-	uint32_t adjustment = start - sums[block];
-
-	sums[block] = end - adjustment;
-	return adjustment;
-}
-
-/* Works out the adjustments of a table that passes 12 to 14, two a turn. Returns 15, or 0. */
+/* Works out the adjustments of a table that passes 12 to 14. Returns 15, or 0. Two a turn, and
+ * both sums are read before one is stored: a sum read right after it is stored is waited for.
+ * In one block the second interval is then adjusted from the start of the first. */
 static inline uint32_t adjust(struct irr_header h, const void *tops, const void *ends,
 			      const void *blocks, uint32_t adjustments[IRR_MAX_INTERVALS])
 {
@@ -490,15 +483,22 @@ static inline uint32_t adjust(struct irr_header h, const void *tops, const void 
 	clear(sums, h.block_count);
 	for (; i + 1 < h.interval_count; i += 2) {
 		uint32_t middle = number(ends, i), end = number(ends, i + 1);
-		uint32_t first = adjust_one(number(blocks, i), start, middle, sums);
-		uint32_t second = adjust_one(number(blocks, i + 1), middle, end, sums);
+		uint32_t block = number(blocks, i), other = number(blocks, i + 1);
+		uint32_t first = start - sums[block];
+		uint32_t second = (block == other ? start : middle) - sums[other];
 
+		sums[block] = middle - first;
+		sums[other] = end - second;
 		adjustments[i] = first;
 		adjustments[i + 1] = second;
 		start = end;
 	}
-	if (i < h.interval_count)
-		adjustments[i] = adjust_one(number(blocks, i), start, number(ends, i), sums);
+	if (i < h.interval_count) {
+		uint32_t block = number(blocks, i);
+
+		adjustments[i] = start - sums[block];
+		sums[block] = number(ends, i) - adjustments[i];
+	}
 	return holdings_wrong(h, share, tops, sums) ? 15 : 0;
 }
 
