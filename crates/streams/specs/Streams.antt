@@ -14,7 +14,8 @@ pub record Logged (log : List ℕ) (n : ℕ) (bytes log′ : List ℕ) (n′ : �
   pub holds : log′ ≡ sets log n bytes
   pub place : n′ ≡ min (n + length bytes) (length log)
 
--- bytes read behind the first `size` of a block, which are kept; exactly those that the read brought are recorded
+-- bytes read behind the first `size` of a block, which are kept; exactly those that the read brought are recorded. What lies behind
+-- them in the block is what C left there
 pub record Read (block : List ℕ) (size : ℕ) (log : List ℕ) (n : ℕ) (r : Input) (block′ log′ : List ℕ) : Type 0 where
   pub kept : take size block′ ≡ take size block
   pub room : size + r .got ≤ length block′
