@@ -19,7 +19,7 @@ use Rattle.model.specs.Calls.{loadReply, loadArrays, placeAnswer, placeTests, p
 use Rattle.model.specs.Calls.{binSizeAnswer, binSizeTests, binSizeReply}
 use Rattle.model.specs.declared.table.Header.{Header}
 use Rattle.model.proofs.Refusals.{first-here, first-skip, first-found, first-after, accepted, refused}
-use Rattle.file.specs.Loading.{loadedOver}
+use Rattle.file_load.specs.Loading.{loadedOver}
 use Rattle.model.proofs.Bytes.{saved-same}
 use Rattle.model.proofs.Loads.{or-second}
 use Rattle.model.proofs.Soundness.{sound-iff, table-numbered}

@@ -246,7 +246,7 @@ pub fn save(
             length: 0,
         };
     }
-    file::save::write_saved(header, tops, ends, blocks, buffer);
+    file_save::write_saved(header, tops, ends, blocks, buffer);
     SaveReply { refusal: 0, length }
 }
 
@@ -264,7 +264,7 @@ pub fn load(
     if sizes::room_short(tops, ends, blocks, adjustments) {
         return refused_load(21);
     }
-    file::load::loaded(bytes, tops, ends, blocks, adjustments)
+    file_load::loaded(bytes, tops, ends, blocks, adjustments)
 }
 
 fn refused_load(refusal: u32) -> LoadReply

@@ -8,7 +8,7 @@ use native.Mathlib.Nat.{zero-add, add-zero, add-suc, suc-add, not-suc-le-zero, l
 use native.Mathlib.Omega.{arith}
 use lib.Dec.{eqb}
 use lib.ListN.{length, getD, take, drop, length-append, length-drop, length-map, List·getD-append, List·getD-map}
-use lib.Seq.{length-take-le, take-length, take-append-seam, getD-take, ext-getD}
+use lib.Seq.{length-take-le, take-length, take-at, take-append-seam, getD-take, ext-getD}
 use borrow.Author.Tests.{lt-ltb, le-ltb}
 use Rattle.model.specs.Basics.{if_then_else_, bit, count, from, before}
 use Rattle.model.specs.Table.{
@@ -106,6 +106,11 @@ module _ (new old : List ℕ) where
   pub take-over : take (length new) (over new old) ≡ new
   unfolding over
   take-over = take-append-seam new (drop (length new) old)
+
+-- what stands over the first of a list's entries
+pub taken : (xs old new : List ℕ) (n : ℕ) → new ≡ over xs old → length xs ≡ n → take n new ≡ xs
+unfolding over
+taken xs old new n e l = ap (take n) e ∙ take-at xs (drop (length xs) old) n l
 
 -- A TABLE WRITTEN
 

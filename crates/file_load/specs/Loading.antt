@@ -1,0 +1,37 @@
+-- What loading is given and what it leaves. Assumes nothing.
+use Prim.Native.Nat.{ℕ}
+use mathlib.Core.Path.{_≡_}
+use mathlib.Core.Bool.{false}
+use mathlib.Core.List.{List}
+use lib.ListN.{take}
+use Rattle.model.specs.Table.{Arrays, arrays, table, over}
+use Rattle.model.specs.Refusal.{first, roomShort}
+use Rattle.model.specs.Saved.{loadedHeader, loadedArrays, fileWrong}
+use Rattle.model.specs.Calls.{arraysAfter, loadTests}
+use Rattle.model.specs.declared.table.Header.{Header}
+use Rattle.file_rules.specs.Judging.{fileArrays, Counted}
+
+-- a file that passes 11 and says the header h, and arrays with room for any table
+pub record Opened (f : List ℕ) (h : Header) (out : Arrays) : Type 0 where
+  pub says : h ≡ loadedHeader f
+  pub passes : fileWrong f ≡ false
+  pub counted : Counted f h
+  pub room : roomShort out ≡ false
+
+-- a file's arrays, and adjustments as far as its table goes, over the first of the arrays `old`
+abbrev pub outOver : List ℕ → Header → List ℕ → Arrays → Arrays
+outOver f h adjustments old =
+    arrays
+    (over (fileArrays f h .tops) (old .tops))
+    (over (fileArrays f h .ends) (old .ends))
+    (over (fileArrays f h .blocks) (old .blocks))
+    (over (take (h .«interval_count») adjustments) (old .adjustments))
+
+-- what a file leaves of the arrays `old`
+unfoldable pub loadedOver : List ℕ → Arrays → Arrays
+loadedOver f old = arraysAfter (first (loadTests f)) (table (loadedHeader f) (loadedArrays f)) old
+
+-- a file's refusal r, and the arrays that it leaves
+pub record Loaded (f : List ℕ) (old : Arrays) (r : ℕ) (left : Arrays) : Type 0 where
+  pub refusal : r ≡ first (loadTests f)
+  pub lent : left ≡ loadedOver f old
