@@ -1,4 +1,4 @@
-// The nine calls for C, declared in include/irr.h: each is the call of `irr` of its name, with its contract. A slice is a pointer
+// The ten calls for C, declared in include/irr.h: each is the call of `irr` of its name, with its contract. A slice is a pointer
 // and a length.
 ghost use mathlib.Core.Path.{_≡_};
 ghost use Rattle.model.specs.Lent.{given, left};
@@ -10,6 +10,8 @@ ghost use Rattle.model.specs.Calls.{
   relocationsReply,
   relocationsRows,
   placeReply,
+  placesReply,
+  placesAfter,
   findReply,
   binSizeReply,
   roomReply,
@@ -23,6 +25,7 @@ use model::reply::BinSizeReply;
 use model::reply::FindReply;
 use model::reply::LoadReply;
 use model::reply::PlaceReply;
+use model::reply::PlacesReply;
 use model::reply::RelocationsReply;
 use model::reply::RoomReply;
 use model::reply::SaveReply;
@@ -127,6 +130,22 @@ pub extern "C" fn irr_place(
     ensures { λ r. ⌜ r ≡ placeReply header (given tops ends blocks adjustments) bucket ⌝ }
 {
     irr::place(header, tops, ends, blocks, adjustments, bucket)
+}
+
+#[no_mangle]
+pub extern "C" fn irr_places(
+    header: Header,
+    tops: &[u32],
+    ends: &[u32],
+    blocks: &[u32],
+    adjustments: &[u32],
+    buckets: &[u32],
+    places: &mut [u32],
+) -> PlacesReply
+    ensures { λ r. ⌜ r ≡ placesReply header (given tops ends blocks adjustments) (now (buckets .entry)) (now (places .entry)) ⌝ }
+    ensures { λ _. ⌜ now (places .exit) ≡ placesAfter header (given tops ends blocks adjustments) (now (buckets .entry)) (now (places .entry)) ⌝ }
+{
+    irr::places(header, tops, ends, blocks, adjustments, buckets, places)
 }
 
 #[no_mangle]

@@ -9,10 +9,10 @@ use borrow.Author.Tests.{ltb-false}
 use Rattle.model.specs.Basics.{if_then_else_}
 use Rattle.model.specs.Limits.{maxIntervals}
 use Rattle.model.specs.Table.{Shape, Table, shape, Arrays, header, written}
-use Rattle.model.specs.Refusal.{first}
+use Rattle.model.specs.Refusal.{first, intervalsFull}
 use Rattle.model.specs.Expansion.{newTops, expanded, moved}
 use Rattle.model.specs.Balance.{least}
-use Rattle.model.specs.Calls.{answer, noHeader, growthTests, intervalsFull, tableReply, arraysAfter}
+use Rattle.model.specs.Calls.{answer, noHeader, growthTests, tableReply, arraysAfter}
 use Rattle.model.specs.declared.reply.TableReply.{TableReply}
 use Rattle.model.proofs.Refusals.{first-found, first-after, refused}
 use Rattle.model.proofs.Soundness.{growth-numbered}

@@ -3,11 +3,11 @@ use Prim.Native.Nat.{ℕ}
 use mathlib.Core.Path.{_≡_}
 use mathlib.Core.List.{List, [], _∷_, _++_}
 use Rattle.model.specs.Table.{Shape, Table, shape, Arrays}
-use Rattle.model.specs.Refusal.{first}
+use Rattle.model.specs.Refusal.{first, intervalsFull}
 use Rattle.model.specs.Expansion.{expanded, moved}
 use Rattle.model.specs.Relocations.{rows}
 use Rattle.model.specs.Balance.{least as leastOf}
-use Rattle.model.specs.Calls.{growthTests, intervalsFull, tableReply, arraysAfter, orderTests, relocationsAnswer, bufferAfter}
+use Rattle.model.specs.Calls.{growthTests, tableReply, arraysAfter, orderTests, relocationsAnswer, bufferAfter}
 use Rattle.model.specs.declared.reply.RelocationsReply.{RelocationsReply}
 use Rattle.model.specs.declared.reply.TableReply.{TableReply}
 

@@ -13,9 +13,9 @@ use Rattle.model.specs.Basics.{if_then_else_, bit, sum}
 use Rattle.model.specs.Limits.{maxIntervals}
 use Rattle.model.specs.Table.{Shape, Interval, interval, Table, Arrays, table}
 use Rattle.model.specs.Place.{blockOf, size}
-use Rattle.model.specs.Refusal.{first}
+use Rattle.model.specs.Refusal.{first, intervalsFull}
 use Rattle.model.specs.Sound.{Sound}
-use Rattle.model.specs.Calls.{growthTests, intervalsFull}
+use Rattle.model.specs.Calls.{growthTests}
 use Rattle.model.specs.Expansion.{
   newTops,
   dueAfter,

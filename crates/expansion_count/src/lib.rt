@@ -11,8 +11,8 @@ ghost use mathlib.Core.List.{List};
 ghost use Prim.Native.Nat.{ℕ, _≤_, _<_};
 ghost use lib.ListN.{length};
 ghost use Rattle.model.specs.Table.{Shape, Interval, Table, sizes};
+ghost use Rattle.model.specs.Refusal.{intervalsFull};
 ghost use Rattle.model.specs.Expansion.{pieces as piecesOf, drained, expanded};
-ghost use Rattle.model.specs.Calls.{intervalsFull};
 ghost use Rattle.expansion_count.specs.Given.{Some, Drains, Grows, Shares, NoneFalls, tableWith};
 ghost use Rattle.expansion_count.specs.Made.{made, leftBehind, pieceOf};
 

@@ -1,5 +1,5 @@
 -- Laws of the calls' replies: what a refusal by the table's tests, or by the tests after them, makes of each. Assumes nothing.
-use Prim.Native.Nat.{ℕ, _+_, _≤_, _<_}
+use Prim.Native.Nat.{ℕ, _+_, _*_, _≤_, _<_}
 use mathlib.Core.Path.{_≡_, refl, sym, _∙_, ap}
 use mathlib.Core.Bool.{true, false}
 use mathlib.Core.List.{List, [], _++_}
@@ -8,7 +8,8 @@ use lib.ListN.{length}
 use borrow.Author.Tests.{lt-ltb, le-ltb}
 use Rattle.model.specs.Basics.{if_then_else_}
 use Rattle.model.specs.Table.{Shape, Arrays, arrays, table, header, over, written}
-use Rattle.model.specs.Refusal.{Test, first, headerOutside, arraysShort, roomShort}
+use Rattle.model.specs.Refusal.{Test, first, headerOutside, arraysShort, roomShort, resultShort}
+use Rattle.model.specs.Place.{places}
 use Rattle.model.specs.Search.{placeAt}
 use Rattle.model.specs.Sound.{Sound}
 use Rattle.model.specs.Initial.{initial}
@@ -16,7 +17,7 @@ use Rattle.model.specs.Saved.{saved, savedLength, loadedHeader, loadedArrays}
 use Rattle.model.specs.Calls.{answer, noHeader, tableTests, sizeTests, tableReply, arraysAfter, initialRefusal, initialReply}
 use Rattle.model.specs.Calls.{initialArrays, saveTests, saveRefusal, saveReply, saveBytes, loadTests, loadRefusal, loadAnswer}
 use Rattle.model.specs.Calls.{loadReply, loadArrays, placeAnswer, placeTests, placeReply, findAnswer, findTests, findReply}
-use Rattle.model.specs.Calls.{binSizeAnswer, binSizeTests, binSizeReply}
+use Rattle.model.specs.Calls.{binSizeAnswer, binSizeTests, binSizeReply, placesTests, placesRefusal, placesReply, placesAfter}
 use Rattle.model.specs.declared.table.Header.{Header}
 use Rattle.model.proofs.Refusals.{first-here, first-skip, first-found, first-after, accepted, refused}
 use Rattle.file_load.specs.Loading.{loadedOver}
@@ -68,6 +69,28 @@ module _ (h : Header) (a : Arrays) (r : ℕ) (e : r ≡ first (tableTests h a)) 
   pub size-accepted : (y : ℕ) → r ≡ 0 → binSizeAnswer (first (binSizeTests (table h a) y)) (table h a) y ≡ binSizeReply h a y
   unfolding binSizeReply
   size-accepted y z = ap (λ q. binSizeAnswer q (table h a) y) (passed (binSizeTests (table h a) y) z)
+
+-- PLACING A LIST OF BUCKETS
+
+module _ (h : Header) (a : Arrays) (xs out : List ℕ) where
+  -- refused by the result's length
+  pub places-short : length out < 2 * length xs → 33 ≡ placesRefusal h a xs out
+  unfolding placesRefusal resultShort
+  places-short l = sym (first-here (33, resultShort xs out) _ (lt-ltb (length out) (2 * length xs) l))
+
+  -- otherwise the tests after that answer
+  pub places-later
+      : (r : ℕ) → 2 * length xs ≤ length out → r ≡ first (tableTests h a ++ placesTests (table h a) xs) → r ≡ placesRefusal h a xs out
+  unfolding placesRefusal resultShort
+  places-later r l e = e ∙ sym (first-skip (33, resultShort xs out) _ (le-ltb (length out) (2 * length xs) l))
+
+  -- the reply and the result, from the refusal
+  pub places-answers
+      : {left : List ℕ} (r : ℕ) → r ≡ placesRefusal h a xs out → left ≡ answer r (over (places (table h a) xs) out) out
+      → (record { refusal = r } ≡ placesReply h a xs out) × (left ≡ placesAfter h a xs out)
+  unfolding placesReply placesAfter
+  places-answers r e w =
+      (ap (λ q. record { refusal = q }) e, w ∙ ap (λ q. answer q (over (places (table h a) xs) out) out) e)
 
 -- A CALL THAT WRITES A TABLE
 

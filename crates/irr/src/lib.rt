@@ -11,6 +11,8 @@ ghost use Rattle.model.specs.Calls.{
   relocationsReply,
   relocationsRows,
   placeReply,
+  placesReply,
+  placesAfter,
   findReply,
   binSizeReply,
   roomReply,
@@ -23,6 +25,7 @@ use model::reply::BinSizeReply;
 use model::reply::FindReply;
 use model::reply::LoadReply;
 use model::reply::PlaceReply;
+use model::reply::PlacesReply;
 use model::reply::RelocationsReply;
 use model::reply::RoomReply;
 use model::reply::SaveReply;
@@ -166,6 +169,32 @@ pub fn place(
         };
     }
     lookup::placed(header, tops, ends, blocks, adjustments, bucket)
+}
+
+// The bins and positions of a list of buckets that does not fall, written to `places`: two numbers a bucket, in turn.
+pub fn places(
+    header: Header,
+    tops: &[u32],
+    ends: &[u32],
+    blocks: &[u32],
+    adjustments: &[u32],
+    buckets: &[u32],
+    places: &mut [u32],
+) -> PlacesReply
+    ensures { λ r. ⌜ r ≡ placesReply header (given tops ends blocks adjustments) (now (buckets .entry)) (now (places .entry)) ⌝ }
+    ensures { λ _. ⌜ now (places .exit) ≡ placesAfter header (given tops ends blocks adjustments) (now (buckets .entry)) (now (places .entry)) ⌝ }
+{
+    // two numbers a bucket, without a product that may pass the largest usize
+    if places.len() / 2 < buckets.len() {
+        return PlacesReply { refusal: 33 };
+    }
+    let refusal = soundness::check(header, tops, ends, blocks, adjustments);
+    if refusal != 0 {
+        return PlacesReply { refusal };
+    }
+    PlacesReply {
+        refusal: batch::placed_each(header, tops, ends, blocks, adjustments, buckets, places),
+    }
 }
 
 // The bucket at a position of a bin.

@@ -20,6 +20,8 @@ use model::search::Located;
 use model::table::Header;
 use table::before;
 use table::bin_count;
+use table::placing_of;
+use table::slot_of;
 
 // Intervals of a table: `count` of them from place `low` on.
 struct Span {
@@ -28,7 +30,7 @@ struct Span {
 }
 
 // 1 where a bucket is past an end, and 0 where it is not: by arithmetic, so that the search has no branch on it.
-fn past(end: u32, bucket: u32) -> usize
+pub fn past(end: u32, bucket: u32) -> usize
     ensures { λ r. ⌜ ((end ≤ bucket) × (r ≡ 1)) ⊎ ((bucket < end) × (r ≡ 0)) ⌝ }
 {
     ((bucket as u64 + 4_294_967_296 - end as u64) / 4_294_967_296) as usize
@@ -87,13 +89,11 @@ fn place_in(tops: &[u32], block: usize, rank: u32) -> PlaceReply
         r ≡ record { refusal = 0; bin = binOf (now (tops .entry)) block rank; position = positionOf (now (tops .entry)) block rank }
         ⌝ }
 {
-    let first = before(tops, block);
-    let bins = tops[block] - first;
-    let bin = first + rank % bins;
+    let slot = slot_of(placing_of(tops, block, 0), rank);
     PlaceReply {
         refusal: 0,
-        bin,
-        position: rank / bins,
+        bin: slot.bin,
+        position: slot.position,
     }
 }
 

@@ -1,15 +1,15 @@
 -- Laws of a saved table's bytes: those of one more number, its parts, and that adjustments are not among them. Assumes nothing.
 use Prim.Native.Nat.{ℕ, _+_, _*_, _≤_, _<_}
-use mathlib.Core.Path.{_≡_, refl, sym, _∙_, ap}
-use mathlib.Core.List.{List, [], _∷_, _++_, map, append-nil, append-assoc}
-use native.Mathlib.Numerals.{add-one}
+use mathlib.Core.Path.{_≡_, sym, _∙_, ap}
+use mathlib.Core.List.{List, _∷_, _++_, map}
 use native.Mathlib.Omega.{arith}
 use lib.ListN.{length, getD, take}
-use lib.Seq.{length-take-le, take-suc}
+use lib.Seq.{length-take-le}
 use Rattle.model.specs.Basics.{joined}
 use Rattle.model.specs.Table.{Arrays, arrays, table}
 use Rattle.model.specs.Saved.{bytesOf, saved}
 use Rattle.model.specs.declared.table.Header.{Header}
+use Rattle.model.proofs.Mapped.{mapped-append, mapped-next}
 use Rattle.model.proofs.Files.{length-joined, Long, saved-numbers}
 
 -- the bytes of numbers, one after the other
@@ -17,15 +17,7 @@ abbrev pub bytesOfAll : List ℕ → List ℕ
 bytesOfAll xs = joined (map bytesOf xs)
 
 pub bytes-append : (xs ys : List ℕ) → bytesOfAll (xs ++ ys) ≡ bytesOfAll xs ++ bytesOfAll ys
-unfolding joined
-bytes-append [] ys = refl
-bytes-append (x ∷ xs) ys =
-    ap (λ (l : List ℕ). bytesOf x ++ l) (bytes-append xs ys)
-    ∙ sym (append-assoc (bytesOf x) (bytesOfAll xs) (bytesOfAll ys))
-
-pub bytes-one : (x : ℕ) → bytesOfAll (x ∷ []) ≡ bytesOf x
-unfolding joined
-bytes-one x = append-nil (bytesOf x)
+bytes-append = mapped-append bytesOf
 
 -- the first i numbers of a list: the length of their bytes, and those of one more
 pub bytes-length : (xs : List ℕ) (i : ℕ) → i ≤ length xs → length (bytesOfAll (take i xs)) ≡ 4 * i
@@ -34,10 +26,7 @@ bytes-length xs i l = omega (arith, length-joined (take i xs), length-take-le i 
 pub bytes-next
     : (xs : List ℕ) (i : ℕ) → i < length xs
     → bytesOfAll (take (i + 1) xs) ≡ bytesOfAll (take i xs) ++ bytesOf (getD xs i 0)
-bytes-next xs i l =
-    rw (add-one i, take-suc xs i 0)
-    (bytes-append (take i xs) (getD xs i 0 ∷ [])
-    ∙ ap (λ (l : List ℕ). bytesOfAll (take i xs) ++ l) (bytes-one (getD xs i 0)))
+bytes-next = mapped-next bytesOf
 
 -- A SAVED TABLE
 

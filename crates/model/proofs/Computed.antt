@@ -5,14 +5,14 @@ use Rattle.model.specs.Table.{bins, shape, firstBin, blockBins, table, h
 use Rattle.model.specs.Place.{intervalOf, blockOf, rank, bin, position, held, others, size, binSize}
 use Rattle.model.specs.Search.{intervalAt, indexOf, located, placeOf, placeAt, blockOfBin, rankAt, includes, holder, foundOf, heldAt, foundAt}
 use Rattle.model.specs.Due.{due, dueOfBins, dueOfBlock}
-use Rattle.model.specs.Refusal.{first, searched, outside, rises, headerOutside, arraysShort, topsWrong, endsWrong, blocksWrong}
+use Rattle.model.specs.Refusal.{first, searched, outside, rises, headerOutside, arraysShort, topsWrong, endsWrong, blocksWrong, intervalsFull}
 use Rattle.model.specs.Refusal.{holdingsWrong, adjustmentOf, adjustmentsWrong, sizeOutside, fewBuckets, shrinks, unchanged}
 use Rattle.model.specs.Refusal.{blocksFull, bucketPast, binPast, roomShort}
 use Rattle.model.specs.Initial.{initial}
 use Rattle.model.specs.Expansion.{newTops, has, dueAfter, someFall, lastBlock, lengthened, gain, pieces, filled, plan, parts, planFor}
 use Rattle.model.specs.Expansion.{parted, movedAfter, extended, drained, expanded, differs, moved}
 use Rattle.model.specs.Relocations.{row, rowIf, rows, page}
-use Rattle.model.specs.Calls.{answer, tableTests, sizeTests, growthTests, intervalsFull, tableReply, arraysAfter, initialRefusal}
+use Rattle.model.specs.Calls.{answer, tableTests, sizeTests, growthTests, tableReply, arraysAfter, initialRefusal}
 use Rattle.model.specs.Calls.{initialReply, initialArrays, expandRefusal, expandReply, expandArrays, relocationsAnswer, bufferAfter}
 use Rattle.model.specs.Calls.{orderTests, rowsOf, relocationsRefusal, relocationsReply, relocationsRows, placeAnswer, findAnswer}
 use Rattle.model.specs.Calls.{binSizeAnswer, placeTests, findTests, binSizeTests, placeReply, findReply, binSizeReply, roomRefusal}

@@ -12,9 +12,9 @@ use Rattle.model.specs.Limits.{maxIntervals}
 use Rattle.model.specs.Table.{Shape, Interval, Table, bins, shape, Arrays, table}
 use Rattle.model.specs.Place.{intervalOf, blockOf, rank, size}
 use Rattle.model.specs.Due.{dueOfBlock}
-use Rattle.model.specs.Refusal.{first, roomShort}
+use Rattle.model.specs.Refusal.{first, roomShort, intervalsFull}
 use Rattle.model.specs.Expansion.{newTops, dueAfter, someFall, filled, drained, expanded, moved}
-use Rattle.model.specs.Calls.{tableTests, growthTests, intervalsFull, answer, tableReply, arraysAfter, expandRefusal, expandReply, expandArrays}
+use Rattle.model.specs.Calls.{tableTests, growthTests, answer, tableReply, arraysAfter, expandRefusal, expandReply, expandArrays}
 use Rattle.model.specs.TableClaims.{SoundIff}
 use Rattle.model.specs.ExpansionClaims.{ExpandSound, ExpandRead, Stays, ExpandStays}
 use Rattle.model.specs.declared.table.Header.{Header}

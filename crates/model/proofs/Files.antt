@@ -29,6 +29,7 @@ use Rattle.model.specs.TableClaims.{LoadSound, LoadRead, Fits, SavedLeng
 use Rattle.model.specs.declared.table.Header.{Header}
 use Rattle.model.specs.declared.reply.SaveReply.{SaveReply}
 use Rattle.model.specs.declared.reply.LoadReply.{LoadReply}
+use Rattle.model.proofs.Mapped.{mapped-length}
 use Rattle.model.proofs.Intervals.{Rising, before-mono}
 use Rattle.model.proofs.Refusals.{
   or-left,
@@ -134,9 +135,8 @@ number-joined (x ∷ xs) s (suc i) l =
 
 -- four bytes a number
 pub length-joined : (xs : List ℕ) → length (joined (map bytesOf xs)) ≡ 4 * length xs
-unfolding joined bytesOf
-length-joined [] = refl
-length-joined (x ∷ xs) = omega (arith, length-joined xs)
+unfolding bytesOf
+length-joined = mapped-length bytesOf 4 (λ x. refl)
 
 -- a file is the bytes of its numbers
 pub joined-numbers

@@ -1,4 +1,5 @@
 pub mod Counts
+pub mod Mapped
 pub mod Dues
 pub mod Balances
 pub mod Rivals
@@ -11,8 +12,10 @@ pub mod Ranks
 pub mod Places
 pub mod Finds
 pub mod Searches
+pub mod Batches
 pub mod Soundness
 pub mod Rules
+pub mod Flags
 pub mod Holdings
 pub mod Files
 pub mod Listed

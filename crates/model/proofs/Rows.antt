@@ -166,6 +166,25 @@ end-within h a sound i k =
       sound .lastEnd,
     )
 
+-- the place of a bucket of interval i
+pub lent-place
+    : (h : Header) (a : Arrays) → Sound h a
+    → (i x : ℕ) → i < h .«interval_count» → before (a .ends) i ≤ x → x < getD (a .ends) i 0
+    → (bin (table h a) x
+    ≡ lentFirst a (getD (a .blocks) i 0) + (x - getD (a .adjustments) i 0) % lentBins a (getD (a .blocks) i 0))
+    × (position (table h a) x ≡ (x - getD (a .adjustments) i 0) / lentBins a (getD (a .blocks) i 0))
+unfolding bin position firstBin blockBins table
+lent-place h a sound i x k b e =
+    let block = block-at h a (sound .endsRise) i x k b e in
+    let ranked = rank-at h a (sound .endsRise) i x k b e in
+    let top = getD-take (h .«block_count») (a .tops) (getD (a .blocks) i 0) 0 (sound .blocksBelow i k) in
+    let first =
+    before-same (take (h .«block_count») (a .tops)) (a .tops) (h .«block_count»)
+    (λ j l. getD-take (h .«block_count») (a .tops) j 0 l)
+    (getD (a .blocks) i 0)
+    (le-of-lt (sound .blocksBelow i k)) in
+    (rw (block, ranked, top, first), rw (block, ranked, top, first))
+
 module _ (h : Header) (a : Arrays) (s : Shape) (sound : Sound h a) (ok : first (growthTests (table h a) s) ≡ 0) where
   -- the rows are max(0, B - T)
   pub rows-least : length (rows (old h a) (new h a s)) ≡ least (shape (old h a)) s
@@ -183,24 +202,8 @@ module _ (h : Header) (a : Arrays) (s : Shape) (sound : Sound h a) (ok : first (
   rows-falls q l =
       ⊎-elim (λ e. e .0) (λ e. absurd (omega (arith, rows-filled (e .0)))) (bit-cases (someFall (old h a) s))
 
-  -- the place of a bucket of interval i, and its rank
+  -- a bucket of interval i: its rank
   module _ (i x : ℕ) (k : i < h .«interval_count») (b : before (a .ends) i ≤ x) (e : x < getD (a .ends) i 0) where
-    old-place
-        : (bin (old h a) x
-        ≡ lentFirst a (getD (a .blocks) i 0) + (x - getD (a .adjustments) i 0) % lentBins a (getD (a .blocks) i 0))
-        × (position (old h a) x ≡ (x - getD (a .adjustments) i 0) / lentBins a (getD (a .blocks) i 0))
-    unfolding bin position firstBin blockBins table
-    old-place =
-        let block = block-at h a (sound .endsRise) i x k b e in
-        let ranked = rank-at h a (sound .endsRise) i x k b e in
-        let top = getD-take (h .«block_count») (a .tops) (getD (a .blocks) i 0) 0 (sound .blocksBelow i k) in
-        let first =
-        before-same (take (h .«block_count») (a .tops)) (a .tops) (h .«block_count»)
-        (λ j l. getD-take (h .«block_count») (a .tops) j 0 l)
-        (getD (a .blocks) i 0)
-        (le-of-lt (sound .blocksBelow i k)) in
-        (rw (block, ranked, top, first), rw (block, ranked, top, first))
-
     old-inside : x < h .buckets
     old-inside = omega (arith, end-within h a sound i k)
 
@@ -343,7 +346,7 @@ module _ (h : Header) (a : Arrays) (s : Shape) (sound : Sound h a) (ok : first (
           ∷ []
       unfolding row
       part-row x c d =
-          let (at, place) = old-place i x k (omega (arith, cut .after)) d in
+          let (at, place) = lent-place h a sound i x k (omega (arith, cut .after)) d in
           let (at′, place′) =
           new-place (old h a) s (sound-well h a sound) (accepted (old h a) s ok) falls x (x - (p - rowsBefore h a s i))
           (omega (arith, more, old-inside i x k (omega (arith, cut .after)) d))

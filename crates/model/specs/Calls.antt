@@ -1,4 +1,4 @@
--- The nine calls: for each its tests in document 01's order, its whole reply, and what every lent list holds afterwards.
+-- The ten calls: for each its tests in document 01's order, its whole reply, and what every lent list holds afterwards.
 -- A refusal replies with its number and zeros, and changes no list. Assumes nothing.
 use Prim.Native.Nat.{ℕ}
 use mathlib.Core.Bool.{Bool}
@@ -6,12 +6,23 @@ use mathlib.Core.List.{List, [], _∷_, _++_}
 use lib.ListN.{length}
 use lib.Dec.{ltb, eqb}
 use Rattle.model.specs.Basics.{if_then_else_, _or_, joined}
-use Rattle.model.specs.Limits.{maxIntervals, maxExpansions}
 use Rattle.model.specs.Table.{Shape, Table, Arrays, table, header, over, written}
-use Rattle.model.specs.Place.{binSize}
+use Rattle.model.specs.Place.{places, binSize}
 use Rattle.model.specs.Refusal.{
   Test,
   first,
+  sizeOutside,
+  fewBuckets,
+  shrinks,
+  unchanged,
+  blocksFull,
+  intervalsFull,
+  somePast,
+  binPast,
+  searched,
+  orderPast,
+  expansionsPast,
+  falls,
   headerOutside,
   arraysShort,
   topsWrong,
@@ -19,25 +30,20 @@ use Rattle.model.specs.Refusal.{
   blocksWrong,
   holdingsWrong,
   adjustmentsWrong,
-  sizeOutside,
-  fewBuckets,
-  shrinks,
-  unchanged,
-  blocksFull,
-  binPast,
-  searched,
   roomShort,
+  resultShort,
 }
 use Rattle.model.specs.Search.{placeAt, foundAt}
 use Rattle.model.specs.Initial.{initial}
 use Rattle.model.specs.Expansion.{expanded, moved}
 use Rattle.model.specs.Relocations.{rows, page}
 use Rattle.model.specs.Room.{room}
-use Rattle.model.specs.Saved.{saved, savedLength, loadedHeader, loadedArrays, fileWrong}
+use Rattle.model.specs.Saved.{saved, savedLength, bufferShort, loadedHeader, loadedArrays, fileWrong}
 use Rattle.model.specs.declared.table.Header.{Header}
 use Rattle.model.specs.declared.reply.TableReply.{TableReply}
 use Rattle.model.specs.declared.reply.RelocationsReply.{RelocationsReply}
 use Rattle.model.specs.declared.reply.PlaceReply.{PlaceReply}
+use Rattle.model.specs.declared.reply.PlacesReply.{PlacesReply}
 use Rattle.model.specs.declared.reply.FindReply.{FindReply}
 use Rattle.model.specs.declared.reply.BinSizeReply.{BinSizeReply}
 use Rattle.model.specs.declared.reply.RoomReply.{RoomReply}
@@ -70,10 +76,6 @@ sizeTests s = (1, sizeOutside s) ∷ (2, fewBuckets s) ∷ []
 
 unfoldable pub growthTests : Table → Shape → List Test
 growthTests t s = sizeTests s ++ ((3, shrinks t s) ∷ (4, unchanged t s) ∷ (5, blocksFull t s) ∷ [])
-
--- 8: the new table needs more than 2,081 intervals
-unfoldable pub intervalsFull : Table → Shape → Bool
-intervalsFull t s = ltb maxIntervals (length (expanded t s .intervals))
 
 -- A CALL THAT WRITES A TABLE: refusal r, m buckets moved, the table t, the arrays `out` to write it to
 
@@ -125,9 +127,8 @@ relocationsAnswer r rs q buffer =
 unfoldable pub bufferAfter : ℕ → List (List ℕ) → ℕ → List ℕ → List ℕ
 bufferAfter r rs q buffer = answer r (over (joined (page q (length buffer) rs)) buffer) buffer
 
--- 9: q above the total
 unfoldable pub orderTests : List (List ℕ) → ℕ → List Test
-orderTests rs q = (9, ltb (length rs) q) ∷ []
+orderTests rs q = (9, orderPast (length rs) q) ∷ []
 
 unfoldable pub rowsOf : Header → Arrays → Shape → List (List ℕ)
 rowsOf h a s = rows (table h a) (expanded (table h a) s)
@@ -167,6 +168,20 @@ binSizeTests t y = (7, binPast t y) ∷ []
 unfoldable pub placeReply : Header → Arrays → ℕ → PlaceReply
 placeReply h a x = placeAnswer (first (tableTests h a ++ placeTests (table h a) x)) (table h a) x
 
+-- places: a list of buckets xs, into a lent result
+
+unfoldable pub placesTests : Table → List ℕ → List Test
+placesTests t xs = (32, falls xs) ∷ (6, somePast t xs) ∷ []
+
+unfoldable pub placesRefusal : Header → Arrays → List ℕ → List ℕ → ℕ
+placesRefusal h a xs out = first ((33, resultShort xs out) ∷ tableTests h a ++ placesTests (table h a) xs)
+
+unfoldable pub placesReply : Header → Arrays → List ℕ → List ℕ → PlacesReply
+placesReply h a xs out = record { refusal = placesRefusal h a xs out }
+
+unfoldable pub placesAfter : Header → Arrays → List ℕ → List ℕ → List ℕ
+placesAfter h a xs out = answer (placesRefusal h a xs out) (over (places (table h a) xs) out) out
+
 -- find
 
 unfoldable pub findReply : Header → Arrays → ℕ → ℕ → FindReply
@@ -180,7 +195,7 @@ binSizeReply h a y = binSizeAnswer (first (tableTests h a ++ binSizeTests (table
 -- room
 
 unfoldable pub roomRefusal : ℕ → ℕ
-roomRefusal m = first ((9, ltb maxExpansions m) ∷ [])
+roomRefusal m = first ((9, expansionsPast m) ∷ [])
 
 unfoldable pub roomReply : ℕ → RoomReply
 roomReply m =
@@ -191,7 +206,7 @@ roomReply m =
 -- save, into a buffer of bytes
 
 unfoldable pub saveTests : Header → List ℕ → List Test
-saveTests h buffer = (21, ltb (length buffer) (savedLength (h .«block_count») (h .«interval_count»))) ∷ []
+saveTests h buffer = (21, bufferShort h buffer) ∷ []
 
 unfoldable pub saveRefusal : Header → Arrays → List ℕ → ℕ
 saveRefusal h a buffer = first (tableTests h a ++ saveTests h buffer)

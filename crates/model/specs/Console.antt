@@ -9,11 +9,11 @@ use lib.Dec.{leb, ltb, eqb}
 use Rattle.model.specs.Basics.{if_then_else_, _and_, joined}
 use Rattle.model.specs.Table.{Table, sizes}
 use Rattle.model.specs.Search.{placeAt, foundAt}
-use Rattle.model.specs.Refusal.{Test, first}
+use Rattle.model.specs.Refusal.{Test, first, intervalsFull}
 use Rattle.model.specs.Initial.{initial}
 use Rattle.model.specs.Expansion.{expanded, moved}
 use Rattle.model.specs.Relocations.{rows}
-use Rattle.model.specs.Calls.{answer, sizeTests, growthTests, intervalsFull, placeTests, findTests}
+use Rattle.model.specs.Calls.{answer, sizeTests, growthTests, placeTests, findTests}
 use Rattle.model.specs.declared.answer.Answer.{Answer}
 use Rattle.model.specs.declared.answer.Answer.the-variants as says
 use Rattle.model.specs.declared.command.Command.{Command}

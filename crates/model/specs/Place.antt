@@ -1,9 +1,9 @@
 -- Document 01, 'Where a bucket is', and the drawer count. Assumes nothing.
 use Prim.Native.Nat.{ℕ, _+_, _-_, _/_, _%_}
 use mathlib.Core.Bool.{not}
-use mathlib.Core.List.{List, [], _∷_}
+use mathlib.Core.List.{List, [], _∷_, map}
 use lib.Dec.{ltb, eqb}
-use Rattle.model.specs.Basics.{if_then_else_, count}
+use Rattle.model.specs.Basics.{if_then_else_, count, joined}
 use Rattle.model.specs.Table.{Interval, interval, Table, firstBin, blockBins}
 
 -- the interval of bucket x: the first one that ends past x
@@ -31,6 +31,13 @@ bin t x = binOf (t .tops) (blockOf t x) (rank t x)
 
 unfoldable pub position : Table → ℕ → ℕ
 position t x = positionOf (t .tops) (blockOf t x) (rank t x)
+
+-- the two numbers of bucket x's place; those of a list of buckets, each in turn
+unfoldable pub place : Table → ℕ → List ℕ
+place t x = bin t x ∷ position t x ∷ []
+
+unfoldable pub places : Table → List ℕ → List ℕ
+places t xs = joined (map (place t) xs)
 
 -- how many buckets below m belong to block j, and how many to other blocks
 unfoldable pub held : Table → ℕ → ℕ → ℕ

@@ -1,14 +1,16 @@
--- Document 01, 'Who brings a refusal about': the conditions. The order of a call's tests stands in Calls. Assumes nothing.
-use Prim.Native.Nat.{ℕ}
+-- Document 01, 'Who brings a refusal about', and the numbers that requests add to it: the conditions, in the order of docs/REFUSALS.md. Those of a
+-- file stand in Saved, those of the program's lines in Console, the order of a call's tests in Calls. Assumes nothing.
+use Prim.Native.Nat.{ℕ, _*_}
 use mathlib.Core.Bool.{Bool, not}
 use mathlib.Core.List.{List, [], _∷_}
 use lib.ListN.{length, getD}
 use lib.Dec.{leb, ltb, eqb}
 use Rattle.model.specs.Basics.{if_then_else_, _and_, _or_, all, before}
-use Rattle.model.specs.Limits.{maxBuckets, maxBins, maxBlocks, maxIntervals}
+use Rattle.model.specs.Limits.{maxBuckets, maxBins, maxBlocks, maxIntervals, maxExpansions}
 use Rattle.model.specs.Table.{Shape, Table, bins, shape, Arrays, table}
 use Rattle.model.specs.Place.{held, others, binSize}
 use Rattle.model.specs.Due.{dueOfBlock}
+use Rattle.model.specs.Expansion.{expanded}
 use Rattle.model.specs.declared.table.Header.{Header}
 
 -- a refusal's number and the test that brings it about
@@ -24,19 +26,76 @@ first (t ∷ rest) = if t .1 then t .0 else first rest
 unfoldable pub searched : ℕ → List Test
 searched r = (r, not (eqb r 0)) ∷ []
 
+-- THE SIZES ASKED FOR
+
 -- x is 0 or above its limit
 unfoldable pub outside : ℕ → ℕ → Bool
 outside limit x = eqb x 0 or ltb limit x
+
+-- 1: a size is 0 or above its limit
+unfoldable pub sizeOutside : Shape → Bool
+sizeOutside s = outside maxBuckets (s .buckets) or outside maxBins (s .bins)
+
+-- 2: n > B in the map asked for
+unfoldable pub fewBuckets : Shape → Bool
+fewBuckets s = ltb (s .buckets) (s .bins)
+
+-- 3: a size is below the old one
+unfoldable pub shrinks : Table → Shape → Bool
+shrinks t s = ltb (s .buckets) (t .buckets) or ltb (s .bins) (bins t)
+
+-- 4: both sizes equal the old ones
+unfoldable pub unchanged : Table → Shape → Bool
+unchanged t s = eqb (s .buckets) (t .buckets) and eqb (s .bins) (bins t)
+
+-- 5: n′ > n with all blocks present
+unfoldable pub blocksFull : Table → Shape → Bool
+blocksFull t s = ltb (bins t) (s .bins) and eqb (length (t .tops)) maxBlocks
+
+-- 8: the new table needs more than 2,081 intervals
+unfoldable pub intervalsFull : Table → Shape → Bool
+intervalsFull t s = ltb maxIntervals (length (expanded t s .intervals))
+
+-- WHAT IS ASKED OF A MAP
+
+-- 6: bucket number not below B
+unfoldable pub bucketPast : Table → ℕ → Bool
+bucketPast t x = leb (t .buckets) x
+
+-- and in a list of buckets, some bucket not below B
+unfoldable pub somePast : Table → List ℕ → Bool
+somePast t xs = not (all (λ i. not (bucketPast t (getD xs i 0))) (length xs))
+
+-- 7: bin not below n, or position not below that bin's size. Finding tests the bin; at such a position its search answers that
+-- there is none (`FindRefused`).
+unfoldable pub binPast : Table → ℕ → Bool
+binPast t y = leb (bins t) y
+
+unfoldable pub placePast : Table → ℕ → ℕ → Bool
+placePast t y p = binPast t y or leb (binSize t y) p
+
+-- 9: order number q above the total number of rows; m expansions, above 64
+abbrev pub orderPast : ℕ → ℕ → Bool
+orderPast total q = ltb total q
+
+abbrev pub expansionsPast : ℕ → Bool
+expansionsPast m = ltb maxExpansions m
+
+-- 32: in a list of buckets, one smaller than the one before it
+unfoldable pub falls : List ℕ → Bool
+falls xs = not (all (λ i. leb (before xs i) (getD xs i 0)) (length xs))
+
+-- A LENT TABLE OR A FILE
 
 -- the first n entries rise strictly, and the first of them is not 0
 unfoldable pub rises : List ℕ → ℕ → Bool
 rises xs n = all (λ i. ltb (before xs i) (getD xs i 0)) n
 
--- B, G or k outside its limits
+-- 11: B, G or k outside its limits
 unfoldable pub headerOutside : Header → Bool
 headerOutside h = outside maxBuckets (h .buckets) or outside maxBlocks (h .«block_count») or outside maxIntervals (h .«interval_count»)
 
--- a lent array shorter than its count
+-- or a lent array shorter than its count
 unfoldable pub arraysShort : Header → Arrays → Bool
 arraysShort h a =
     ltb (length (a .tops)) (h .«block_count»)
@@ -72,37 +131,7 @@ adjustmentOf h a i = others (table h a) (getD (a .blocks) i 0) (before (a .ends)
 unfoldable pub adjustmentsWrong : Header → Arrays → Bool
 adjustmentsWrong h a = not (all (λ i. eqb (getD (a .adjustments) i 0) (adjustmentOf h a i)) (h .«interval_count»))
 
--- 1: a size is 0 or above its limit
-unfoldable pub sizeOutside : Shape → Bool
-sizeOutside s = outside maxBuckets (s .buckets) or outside maxBins (s .bins)
-
--- 2: n > B in the map asked for
-unfoldable pub fewBuckets : Shape → Bool
-fewBuckets s = ltb (s .buckets) (s .bins)
-
--- 3: a size is below the old one
-unfoldable pub shrinks : Table → Shape → Bool
-shrinks t s = ltb (s .buckets) (t .buckets) or ltb (s .bins) (bins t)
-
--- 4: both sizes equal the old ones
-unfoldable pub unchanged : Table → Shape → Bool
-unchanged t s = eqb (s .buckets) (t .buckets) and eqb (s .bins) (bins t)
-
--- 5: n′ > n with all blocks present
-unfoldable pub blocksFull : Table → Shape → Bool
-blocksFull t s = ltb (bins t) (s .bins) and eqb (length (t .tops)) maxBlocks
-
--- 6: bucket number not below B
-unfoldable pub bucketPast : Table → ℕ → Bool
-bucketPast t x = leb (t .buckets) x
-
--- 7: bin not below n, or position not below that bin's size. Finding tests the bin; at such a position its search answers that
--- there is none (`FindRefused`).
-unfoldable pub binPast : Table → ℕ → Bool
-binPast t y = leb (bins t) y
-
-unfoldable pub placePast : Table → ℕ → ℕ → Bool
-placePast t y p = binPast t y or leb (binSize t y) p
+-- LENT ROOM
 
 -- 21: room for a new table below 65 tops or below 2,081 of any interval array
 unfoldable pub roomShort : Arrays → Bool
@@ -111,3 +140,7 @@ roomShort a =
     or ltb (length (a .ends)) maxIntervals
     or ltb (length (a .blocks)) maxIntervals
     or ltb (length (a .adjustments)) maxIntervals
+
+-- 33: a lent result shorter than two numbers a bucket
+unfoldable pub resultShort : List ℕ → List ℕ → Bool
+resultShort xs out = ltb (length out) (2 * length xs)

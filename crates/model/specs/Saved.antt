@@ -3,7 +3,7 @@ use Prim.Native.Nat.{ℕ, _+_, _*_, _/_, _%_}
 use mathlib.Core.Bool.{Bool, not}
 use mathlib.Core.List.{List, [], _∷_, _++_, map}
 use lib.ListN.{length, getD}
-use lib.Dec.{eqb}
+use lib.Dec.{ltb, eqb}
 use Rattle.model.specs.Basics.{_or_, from, joined}
 use Rattle.model.specs.Table.{Table, Arrays, arrays}
 use Rattle.model.specs.Refusal.{headerOutside, adjustmentOf}
@@ -27,6 +27,10 @@ saved t = joined (map bytesOf (savedNumbers t))
 -- the length of a saved map of G blocks and k intervals
 unfoldable pub savedLength : ℕ → ℕ → ℕ
 savedLength g k = 12 + 4 * g + 8 * k
+
+-- 21: room for a file below its length
+abbrev pub bufferShort : Header → List ℕ → Bool
+bufferShort h buffer = ltb (length buffer) (savedLength (h .«block_count») (h .«interval_count»))
 
 -- number i of a file
 unfoldable pub number : List ℕ → ℕ → ℕ

@@ -2,13 +2,13 @@
 use Prim.Native.Nat.{ℕ, _+_, _*_, _≤_, _<_}
 use mathlib.Core.Path.{_≡_}
 use mathlib.Core.Logic.{_↔_}
-use mathlib.Core.Bool.{false}
+use mathlib.Core.Bool.{true, false}
 use mathlib.Core.List.{List, [], _∷_}
 use lib.ListN.{length, getD, take}
 use Rattle.model.specs.Table.{Shape, Table, bins, shape, Arrays, table, header, written}
 use Rattle.model.specs.Place.{bin, position, binSize}
 use Rattle.model.specs.Due.{due}
-use Rattle.model.specs.Refusal.{first, arraysShort, bucketPast, placePast, roomShort}
+use Rattle.model.specs.Refusal.{first, bucketPast, placePast, falls, arraysShort, roomShort, resultShort}
 use Rattle.model.specs.Search.{bucketAt}
 use Rattle.model.specs.Sound.{Sound}
 use Rattle.model.specs.Initial.{initial}
@@ -17,6 +17,9 @@ use Rattle.model.specs.Calls.{
   tableTests,
   placeTests,
   findTests,
+  placeReply,
+  placesRefusal,
+  placesAfter,
   initialRefusal,
   initialReply,
   initialArrays,
@@ -98,6 +101,30 @@ FindRefused =
     (h : Header) (a : Arrays) → Sound h a
     → (y p : ℕ) → first (findTests (table h a) y p) ≡ first ((7, placePast (table h a) y p) ∷ [])
 
+-- a list falls exactly where one of its buckets is smaller than the one before it
+abbrev pub FallsWhere : Type 0
+FallsWhere = (xs : List ℕ) → (falls xs ≡ true) ↔ ((i : ℕ) × (i + 1 < length xs) × (getD xs (i + 1) 0 < getD xs i 0))
+
+-- a list of buckets is placed as its buckets are one by one: accepted, it leaves at 2i and 2i + 1 the bin and the position of the accepted reply for bucket i
+abbrev pub Single : Header → Arrays → List ℕ → List ℕ → Type 0
+Single h a xs out =
+    (i : ℕ) → i < length xs
+    → (placeReply h a (getD xs i 0) .refusal ≡ 0)
+    × (getD (placesAfter h a xs out) (2 * i) 0 ≡ placeReply h a (getD xs i 0) .bin)
+    × (getD (placesAfter h a xs out) (2 * i + 1) 0 ≡ placeReply h a (getD xs i 0) .position)
+
+-- some bucket of the list is by itself refused by 6
+abbrev pub SomeOutside : Header → Arrays → List ℕ → Type 0
+SomeOutside h a xs = (i : ℕ) × (i < length xs) × (placeReply h a (getD xs i 0) .refusal ≡ 6)
+
+-- and it is refused by 6 exactly where the room and the table are right, the list does not fall, and some bucket of it is by itself
+abbrev pub PlacesSingle : Type 0
+PlacesSingle =
+    (h : Header) (a : Arrays) (xs out : List ℕ)
+    → (placesRefusal h a xs out ≡ 0 → Single h a xs out)
+    × ((placesRefusal h a xs out ≡ 6)
+    ↔ ((resultShort xs out ≡ false) × (first (tableTests h a) ≡ 0) × (falls xs ≡ false) × SomeOutside h a xs))
+
 -- there is room in a buffer for a saved map of the header's G and k
 abbrev pub Fits : Header → List ℕ → Type 0
 Fits h buffer = 12 + 4 * h .«block_count» + 8 * h .«interval_count» ≤ length buffer
@@ -144,6 +171,8 @@ pub record TableClaims : Type 0 where
   pub placeFound : PlaceFound
   pub placeRefused : PlaceRefused
   pub findRefused : FindRefused
+  pub fallsWhere : FallsWhere
+  pub placesSingle : PlacesSingle
   pub savedLength : SavedLength
   pub savedLoaded : SavedLoaded
   pub loadedSaved : LoadedSaved

@@ -1,4 +1,4 @@
-// The replies of the nine calls. `refusal` is document 01's number, or 0; in a refusal every other number is 0.
+// The replies of the ten calls. `refusal` is document 01's number, or 0; in a refusal every other number is 0.
 use crate::table::Header;
 
 // initial and expand: the buckets moved, and the header of the table written
@@ -22,6 +22,12 @@ pub struct PlaceReply {
     pub refusal: u32,
     pub bin: u32,
     pub position: u32,
+}
+
+// places: the places themselves are in the lent result
+#[repr(C)]
+pub struct PlacesReply {
+    pub refusal: u32,
 }
 
 #[repr(C)]

@@ -8,9 +8,10 @@ use lib.ListN.{length}
 use lib.Seq.{sets}
 use Rattle.model.specs.Basics.{from}
 use Rattle.model.proofs.Tables.{from-ext}
-use Rattle.relocations.specs.Spans.{placedRow, pairRow, runRow, turn, withRows, Places, Slotted, Turned, Runs}
-use Rattle.relocations.specs.declared.Placing.{Placing}
-use Rattle.relocations.specs.declared.Slot.{Slot}
+use Rattle.relocations.specs.Spans.{placedRow, pairRow, runRow, turn, withRows, Slotted, Turned, Runs}
+use Rattle.table.specs.Placing.{Places}
+use Rattle.table.specs.declared.Placing.{Placing}
+use Rattle.table.specs.declared.Slot.{Slot}
 use Rattle.relocations.specs.declared.Turn.{Turn}
 use Rattle.relocations.proofs.Spans.{row-slots, five-numbers, Listed, listed-starts, listed-length, listed-run, listed-more, listed-ends}
 

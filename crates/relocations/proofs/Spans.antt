@@ -3,7 +3,7 @@ use Prim.Native.Nat.{ℕ, _+_, _-_, _*_, _/_, _%_, _^_, min, _≤_, _<_}
 use mathlib.Core.Path.{_≡_, refl, sym, _∙_, ap, ap₂}
 use mathlib.Core.Logic.{⊎-elim}
 use mathlib.Core.List.{List, [], _∷_, _++_, append-nil, append-assoc}
-use native.Mathlib.Nat.{mul-add-mod-self-right, mod-eq-of-lt, mul-add-div-right, div-eq-of-lt, add-zero, le-mul-of-pos-right}
+use native.Mathlib.Nat.{div-add-mod', mod-lt, mul-add-mod-self-right, mod-eq-of-lt, mul-add-div-right, div-eq-of-lt, add-zero, le-mul-of-pos-right}
 use native.Mathlib.Omega.{arith}
 use lib.ListN.{length, take, drop, length-append, length-drop, take-append-drop}
 use lib.Seq.{sets, sets-eq, length-take-le, take-at, drop-append-add, drop-drop}
@@ -14,9 +14,10 @@ use Rattle.model.proofs.Counts.{below-or}
 use Rattle.model.proofs.Tables.{length-from, from-append, length-over}
 use Rattle.model.proofs.Rows.{joined-append}
 use Rattle.model.proofs.Pages.{Fives, fives-length, fives-page, fives-from, page-length, page-none, page-append, page-from}
-use Rattle.relocations.specs.Spans.{placedRow, withRows, paged, Places, Slotted, Steps}
-use Rattle.relocations.specs.declared.Placing.{Placing}
-use Rattle.relocations.specs.declared.Slot.{Slot}
+use Rattle.relocations.specs.Spans.{placedRow, withRows, paged, Slotted, Steps}
+use Rattle.table.specs.Placing.{Places, slotOf}
+use Rattle.table.specs.declared.Placing.{Placing}
+use Rattle.table.specs.declared.Slot.{Slot}
 
 -- SLOTS
 
@@ -46,6 +47,19 @@ module _ (f d rank : ℕ) (s : Slot) (h : Slotted f d rank s) where
         mul-add-div-right {m = d} (omega (arith, slot-below)) (s .position) (s .bin - f),
         div-eq-of-lt slot-below,
       )
+
+-- the slot of a bucket is that of its rank
+pub slot-placed
+    : {p : Placing} {x : ℕ} {s : Slot} → Places p x → s ≡ slotOf p x → Slotted (p .first) (p .bins) (x - p .adjustment) s
+slot-placed {p} {x} {s} h e =
+    let rank = x - p .adjustment in
+    let bin : s .bin ≡ p .first + rank % p .bins = ap (λ s. s .bin) e in
+    let position : s .position ≡ rank / p .bins = ap (λ s. s .position) e in
+    record {
+      after = omega (arith, bin);
+      within = omega (arith, bin, mod-lt rank (h .some));
+      whole = rw position (omega (arith, bin, div-add-mod' rank (p .bins)));
+    }
 
 -- the slot of a bucket below another has a next position
 pub slot-next

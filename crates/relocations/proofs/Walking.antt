@@ -26,10 +26,11 @@ use Rattle.model.proofs.Listed.{size-most}
 use Rattle.model.proofs.Wells.{adjustment-most, sound-well}
 use Rattle.model.proofs.Growths.{accepted, some-more}
 use Rattle.model.proofs.Drained.{drainedBlock, plan-stay, plan-move, plan-split}
-use Rattle.model.proofs.Rows.{rows-least, rowsBelow, rows-more, rowsBefore, lentFirst, lentBins, Cut, end-within, rows-size, part-rows, part-row}
+use Rattle.model.proofs.Rows.{rows-least, rowsBelow, rows-more, rowsBefore, Cut, end-within, rows-size, part-rows, part-row}
 use Rattle.model.proofs.Pages.{Fives, fives-from, fives-rows, page-past}
-use Rattle.relocations.specs.Spans.{placing, placedRow, partRows, paged, Part, PartsMove, ActionMoves}
-use Rattle.relocations.specs.declared.Placing.{Placing}
+use Rattle.relocations.specs.Spans.{placedRow, partRows, paged, Part, PartsMove, ActionMoves}
+use Rattle.table.specs.Placing.{placing, placingAt}
+use Rattle.table.specs.declared.Placing.{Placing}
 use Rattle.relocations.proofs.Actions.{partsOf, rows-stay, rows-move, rows-split}
 use Rattle.relocations.proofs.Spans.{page-full, page-fits, paged-behind, five-numbers}
 
@@ -121,11 +122,6 @@ pub record Walking (h : Header) (a : Arrays) (s : Shape) (q : ℕ) (rows₀ rows
   pub below : moved ≤ start
   pub filled : rows ≡ over (joined (page q (length rows₀) (rowsBelow (table h a) (expanded (table h a) s) start))) rows₀
 
--- how the buckets of interval i are placed
-abbrev pub lentPlacing : Arrays → ℕ → Placing
-lentPlacing a i =
-    placing (lentFirst a (getD (a .blocks) i 0)) (lentBins a (getD (a .blocks) i 0)) (getD (a .adjustments) i 0)
-
 module _
     (h : Header) (a : Arrays) (s : Shape) (sound : Sound h a) (ok : first (growthTests (table h a) s) ≡ 0)
     (falls : someFall (table h a) s ≡ true) where
@@ -165,8 +161,8 @@ module _
 
     abbrev parted : List (List ℕ)
     parted =
-        partRows (h .«block_count») (lentPlacing a i) (bins (table h a)) (s .bins - bins (table h a)) start
-        (partsOf (plan due start (lentInterval a i) moved .action) end (lentPlacing a i) (getD (a .blocks) i 0) (h .«block_count»))
+        partRows (h .«block_count») (placingAt a i) (bins (table h a)) (s .bins - bins (table h a)) start
+        (partsOf (plan due start (lentInterval a i) moved .action) end (placingAt a i) (getD (a .blocks) i 0) (h .«block_count»))
 
     here : (p : ℕ) × Planned due start (lentInterval a i) moved p
     here = planned due start (lentInterval a i) moved (sound .endsRise i l) (adjustment-most h a sound i l)
@@ -183,7 +179,7 @@ module _
 
     -- what its plan moves is placed
     part-here
-        : Part (lentPlacing a i) (placing (bins (table h a)) (s .bins - bins (table h a)) (here .0 - moved)) (here .0) end moved
+        : Part (placingAt a i) (placing (bins (table h a)) (s .bins - bins (table h a)) (here .0 - moved)) (here .0) end moved
     part-here =
         let j = getD (a .blocks) i 0 in
         let below = sound .blocksBelow i l in
@@ -205,28 +201,28 @@ module _
     -- what moves of it, the rows that it adds, and how many
     step-parts
         : (b g : ℕ) → b < g
-        → PartsMove g (lentPlacing a i) (bins (table h a)) (s .bins - bins (table h a)) moved start
-        (partsOf (plan due start (lentInterval a i) moved .action) end (lentPlacing a i) b g)
-    step-parts = here .1 .parts-move (lentPlacing a i) (bins (table h a)) (s .bins - bins (table h a)) part-here
+        → PartsMove g (placingAt a i) (bins (table h a)) (s .bins - bins (table h a)) moved start
+        (partsOf (plan due start (lentInterval a i) moved .action) end (placingAt a i) b g)
+    step-parts = here .1 .parts-move (placingAt a i) (bins (table h a)) (s .bins - bins (table h a)) part-here
 
     parted-from
         : parted
-        ≡ from (placedRow (lentPlacing a i) (placing (bins (table h a)) (s .bins - bins (table h a)) (here .0 - moved)))
+        ≡ from (placedRow (placingAt a i) (placing (bins (table h a)) (s .bins - bins (table h a)) (here .0 - moved)))
         (here .0)
         (end - here .0)
-    parted-from = here .1 .rows (lentPlacing a i) (bins (table h a)) (s .bins - bins (table h a)) _ _ (sound .blocksBelow i l)
+    parted-from = here .1 .rows (placingAt a i) (bins (table h a)) (s .bins - bins (table h a)) _ _ (sound .blocksBelow i l)
 
     step-fives : Fives parted
     step-fives =
         subst Fives (sym parted-from)
-        (fives-from (placedRow (lentPlacing a i) _) (five-numbers (lentPlacing a i) _) (here .0) (end - here .0))
+        (fives-from (placedRow (placingAt a i) _) (five-numbers (placingAt a i) _) (here .0) (end - here .0))
 
     step-rows : below end ≡ below start ++ parted
     unfolding placedRow
     step-rows =
         part-rows h a s sound ok falls i (here .0) l (here .1 .cut)
         ∙ ap (λ rs. below start ++ rs)
-        (from-ext (row (table h a) (expanded (table h a) s)) (placedRow (lentPlacing a i) _) (here .0) (end - here .0)
+        (from-ext (row (table h a) (expanded (table h a) s)) (placedRow (placingAt a i) _) (here .0) (end - here .0)
         (λ x b e. part-row h a s sound ok falls i (here .0) l (here .1 .cut) x b (omega (arith, here .1 .cut .within)))
         ∙ sym parted-from)
 
@@ -238,7 +234,7 @@ module _
           ap length step-rows,
           length-append (below start) parted,
           ap length parted-from,
-          length-from (placedRow (lentPlacing a i) (placing (bins (table h a)) (s .bins - bins (table h a)) (here .0 - moved)))
+          length-from (placedRow (placingAt a i) (placing (bins (table h a)) (s .bins - bins (table h a)) (here .0 - moved)))
               (here .0)
               (end - here .0),
         )
@@ -292,7 +288,7 @@ module _
       -- interval i, with its plan, its placing and the old number of bins as the code has them
       module _
           (l : i < h .«interval_count») (plan : Plan) (old : Placing) (n : ℕ)
-          (e : plan ≡ planFor (table h a) s start (lentInterval a i) moved) (f : old ≡ lentPlacing a i) (g : n ≡ bins (table h a)) where
+          (e : plan ≡ planFor (table h a) s start (lentInterval a i) moved) (f : old ≡ placingAt a i) (g : n ≡ bins (table h a)) where
         -- what its rows ask
         pub walking-parts : ActionMoves (plan .action) start (getD (a .ends) i 0) old n (s .bins - n) moved
         unfolding planFor

@@ -13,12 +13,10 @@ use Rattle.model.specs.Relocations.{rows, page}
 use Rattle.model.specs.Calls.{growthTests}
 use Rattle.model.specs.declared.plan.Action.{Action}
 use Rattle.expansion_plan.specs.Shares.{DuesAfter}
-use Rattle.relocations.specs.declared.Placing.{Placing}
-use Rattle.relocations.specs.declared.Slot.{Slot}
+use Rattle.table.specs.Placing.{placing, Places}
+use Rattle.table.specs.declared.Placing.{Placing}
+use Rattle.table.specs.declared.Slot.{Slot}
 use Rattle.relocations.specs.declared.Turn.{Turn}
-
-abbrev pub placing : ℕ → ℕ → ℕ → Placing
-placing first bins adjustment = record { first = first; bins = bins; adjustment = adjustment }
 
 -- the row of bucket x, whose old place goes by `old` and its new one by `new`
 unfoldable pub placedRow : Placing → Placing → ℕ → List ℕ
@@ -53,12 +51,6 @@ partRows g old f d start (i ∷ rest) =
 -- a buffer with those of the rows rs written into it that the page from order number q on has, where rs come after w others
 unfoldable pub paged : ℕ → ℕ → List (List ℕ) → List ℕ → List ℕ
 paged q w rs buffer = withRows (w - q) (page (q - w) (length buffer - 5 * (w - q)) rs) buffer
-
--- what places buckets from x on: there is a bin, its numbers fit, and x has a rank
-pub record Places (p : Placing) (x : ℕ) : Type 0 where
-  pub some : 1 ≤ p .bins
-  pub fits : p .first + p .bins < 2 ^ 32
-  pub ranked : p .adjustment ≤ x
 
 -- the slot of a rank in a block of d bins from f on
 pub record Slotted (f d rank : ℕ) (s : Slot) : Type 0 where

@@ -13,29 +13,20 @@ ghost use Rattle.model.specs.Expansion.{parts};
 ghost use Rattle.model.specs.Relocations.{page};
 ghost use Rattle.model.specs.Calls.{growthTests};
 ghost use Rattle.expansion_plan.specs.Shares.{TopsAsked};
-ghost use Rattle.relocations.specs.Spans.{placing, turn, placedRow, pairRow, runRow, withRows, partRows, paged, movesOf};
-ghost use Rattle.relocations.specs.Spans.{Places, Slotted, Steps, Runs, Part, ActionMoves, Moves};
+ghost use Rattle.table.specs.Placing.{Places, placing};
+ghost use Rattle.relocations.specs.Spans.{turn, placedRow, pairRow, runRow, withRows, partRows, paged, movesOf};
+ghost use Rattle.relocations.specs.Spans.{Slotted, Steps, Runs, Part, ActionMoves, Moves};
 use expansion_plan::dues_after;
 use expansion_plan::plan_at;
 use model::limits::BLOCKS;
 use model::plan::Action;
 use model::table::Header;
-use table::before;
+use table::Placing;
+use table::Slot;
 use table::bin_count;
 use table::due_below;
-
-// How the buckets of an interval are placed: the first bin and the number of bins of its block, and its rank adjustment.
-pub struct Placing {
-    pub first: u32,
-    pub bins: u32,
-    pub adjustment: u32,
-}
-
-// A place: the bin and the position.
-pub struct Slot {
-    pub bin: u32,
-    pub position: u32,
-}
+use table::placing_of;
+use table::slot_of;
 
 // A block's turn through its bins: the place of its next bucket as a pair, the bin in the low 32 bits and the position in the
 // high ones, and how many bins are left from that bin on.
@@ -72,18 +63,6 @@ fn high(pair: u64) -> u32
     ensures { λ r. ⌜ r ≡ pair / 2 ^ 32 ⌝ }
 {
     (pair / HIGH) as u32
-}
-
-// The slot of a bucket.
-fn slot_of(placing: Placing, bucket: u32) -> Slot
-    requires { ⌜ Places placing bucket ⌝ }
-    ensures { λ r. ⌜ Slotted (placing .first) (placing .bins) (bucket - placing .adjustment) r ⌝ }
-{
-    let rank = bucket - placing.adjustment;
-    Slot {
-        bin: placing.first + rank % placing.bins,
-        position: rank / placing.bins,
-    }
 }
 
 // The slot of the next rank, in a block whose bins go from `first` to `last`: the next bin, and past the last one the first, a
@@ -345,23 +324,6 @@ fn write_action(
             };
             write_part(old, new, bucket, end, first, rows)
         }
-    }
-}
-
-// How the buckets of an interval of the given block and adjustment are placed.
-fn placing_of(tops: &[u32], block: usize, adjustment: u32) -> Placing
-    requires { ⌜ (block < length (now tops)) × (entryBefore (now tops) block ≤ getD (now tops) block 0) ⌝ }
-    ensures { λ r.
-        ⌜
-        r ≡ placing (entryBefore (now (tops .entry)) block)
-        (getD (now (tops .entry)) block 0 - entryBefore (now (tops .entry)) block) adjustment
-        ⌝ }
-{
-    let first = before(tops, block);
-    Placing {
-        first,
-        bins: tops[block] - first,
-        adjustment,
     }
 }
 

@@ -10,11 +10,11 @@ use borrow.Author.Tests.{le-ltb, ltb-false}
 use Rattle.model.specs.Basics.{if_then_else_}
 use Rattle.model.specs.Limits.{maxIntervals}
 use Rattle.model.specs.Table.{Table, Arrays, header, over, written, sizes}
-use Rattle.model.specs.Refusal.{first, roomShort}
+use Rattle.model.specs.Refusal.{first, roomShort, intervalsFull}
 use Rattle.model.specs.Sound.{Sound}
 use Rattle.model.specs.Initial.{initial}
 use Rattle.model.specs.Expansion.{expanded}
-use Rattle.model.specs.Calls.{growthTests, intervalsFull}
+use Rattle.model.specs.Calls.{growthTests}
 use Rattle.model.specs.Console.{isFresh, isUnreadable, commandTests, commandRefusal}
 use Rattle.model.specs.declared.command.Command.{Command}
 use Rattle.model.specs.declared.command.Command.the-variants.{Fresh, Grow, Where, At, Moves, Unreadable}

@@ -1,5 +1,4 @@
 pub mod Answers
-pub mod Flags
 pub mod Passed
 pub mod Turns
 pub mod Walk

@@ -22,7 +22,7 @@ use Rattle.model.specs.declared.table.Header.{Header}
 use Rattle.model.proofs.Rules.{all-fails, before-next}
 use Rattle.model.proofs.Holdings.{Sums, sums-none, sums-more, sums-adjustment, held-same}
 use Rattle.soundness.specs.Passed.{IntervalsRight, Held, adjusted, Walked, Walks}
-use Rattle.soundness.proofs.Flags.{all-pass}
+use Rattle.model.proofs.Flags.{all-pass}
 
 -- MODULO 2^32
 

@@ -1,15 +1,29 @@
-// What every layer reads of a table: the entry before a place, the number of bins, and what bins are due; and the copying of
-// an array.
+// What every layer reads of a table: the entry before a place, the number of bins, what bins are due, and how the buckets of an
+// interval are placed; and the copying of an array.
 use model::limits::INTERVALS;
 use model::table::Header;
 ghost use Prim.Native.Nat.{ℕ, _+_, _*_, _^_, min, _≤_, _<_};
 ghost use mathlib.Core.List.{List};
 ghost use mathlib.Core.Path.{_≡_};
-ghost use lib.ListN.{length, take};
+ghost use lib.ListN.{length, getD, take};
 ghost use Rattle.model.specs.Lent.{TopsSound, lent};
 ghost use Rattle.model.specs.Basics.{before as entryBefore};
 ghost use Rattle.model.specs.Limits.{maxIntervals};
 ghost use Rattle.model.specs.Table.{bins as binsOf, over};
+ghost use Rattle.table.specs.Placing.{placingOf, Places, slotOf};
+
+// How the buckets of an interval are placed: the first bin and the number of bins of its block, and its rank adjustment.
+pub struct Placing {
+    pub first: u32,
+    pub bins: u32,
+    pub adjustment: u32,
+}
+
+// A place: the bin and the position.
+pub struct Slot {
+    pub bin: u32,
+    pub position: u32,
+}
 
 // The entry before place i of xs; 0 stands before the first. The start of interval i, or the first bin of block i.
 pub fn before(xs: &[u32], i: usize) -> u32
@@ -37,6 +51,32 @@ pub fn due_below(quotient: u32, remainder: u32, m: u32) -> u32
         return whole + m;
     }
     whole + remainder
+}
+
+// How the buckets of an interval of the given block and adjustment are placed.
+pub fn placing_of(tops: &[u32], block: usize, adjustment: u32) -> Placing
+    requires { ⌜ (block < length (now tops)) × (entryBefore (now tops) block ≤ getD (now tops) block 0) ⌝ }
+    ensures { λ r. ⌜ r ≡ placingOf (now (tops .entry)) block adjustment ⌝ }
+    ensures { λ r. ⌜ r .first + r .bins < 2 ^ 32 ⌝ }
+{
+    let first = before(tops, block);
+    Placing {
+        first,
+        bins: tops[block] - first,
+        adjustment,
+    }
+}
+
+// The slot of a bucket: document 01's drawer and position of its rank.
+pub fn slot_of(placing: Placing, bucket: u32) -> Slot
+    requires { ⌜ Places placing bucket ⌝ }
+    ensures { λ r. ⌜ r ≡ slotOf placing bucket ⌝ }
+{
+    let rank = bucket - placing.adjustment;
+    Slot {
+        bin: placing.first + rank % placing.bins,
+        position: rank / placing.bins,
+    }
 }
 
 // Copies the first `count` entries of an array over those of another: by way of a local one, which overlaps neither, so that

@@ -2,8 +2,8 @@
 use mathlib.Core.Path.{_≡_, refl, sym, _∙_}
 use mathlib.Core.Bool.{false}
 use Rattle.model.specs.Lent.{lent}
+use Rattle.model.specs.Refusal.{intervalsFull}
 use Rattle.model.specs.Table.{sizes}
-use Rattle.model.specs.Calls.{intervalsFull}
 use Rattle.expansion.proofs.Grows.{not-full, grow-same, grow-full, grow-accepted}
 use borrow.Author.Needs.{needs}
 use Rattle.expansion.proofs.accepted.Statement.{statement}

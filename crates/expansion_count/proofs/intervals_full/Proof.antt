@@ -3,8 +3,8 @@ use mathlib.Core.Path.{sym, ap}
 use native.Mathlib.Omega.{arith}
 use lib.Dec.{ltb}
 use borrow.Author.Needs.{needs}
-use Rattle.model.specs.Calls.{intervalsFull}
 use Rattle.model.specs.Limits.{maxIntervals}
+use Rattle.model.specs.Refusal.{intervalsFull}
 use Rattle.model.specs.Table.{sizes}
 use Rattle.model.proofs.Wells.{sound-well}
 use Rattle.model.proofs.Growths.{accepted, block-limits}

@@ -7,7 +7,7 @@ use lib.Dec.{eqb, ltb}
 use Rattle.model.specs.Basics.{_and_, all, before}
 use Rattle.model.specs.Refusal.{rises, endsWrong}
 use Rattle.model.proofs.Rules.{or-first, or-last, before-some}
-use Rattle.soundness.proofs.Flags.{rises-more}
+use Rattle.model.proofs.Flags.{rises-more}
 use Rattle.file_rules.specs.Judging.{fileArrays}
 use Rattle.file_rules.proofs.ends_wrong.Statement.{statement}
 use Rattle.file_rules.proofs.ends_wrong.Tie as tie

@@ -3,6 +3,7 @@ use Rattle.model.proofs.Soundness.{sound-iff, same-sound, initial-sound
 use Rattle.model.proofs.Places.{size-due, table-balanced}
 use Rattle.model.proofs.Finds.{find-placed, place-found, find-refused}
 use Rattle.model.proofs.Searches.{place-refused}
+use Rattle.model.proofs.Batches.{falls-where, places-single}
 use Rattle.model.proofs.Files.{load-sound, load-read, save-length, saved-loaded, loaded-saved}
 use Rattle.model.proofs.table_claims.Statement.{statement}
 use Rattle.model.proofs.table_claims.Tie as tie
@@ -23,6 +24,8 @@ returns c =
       placeFound = place-found;
       placeRefused = place-refused;
       findRefused = find-refused;
+      fallsWhere = falls-where;
+      placesSingle = places-single;
       savedLength = save-length;
       savedLoaded = saved-loaded;
       loadedSaved = loaded-saved;

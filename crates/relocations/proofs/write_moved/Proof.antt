@@ -161,7 +161,7 @@ write-action-requires c κs =
           (c .before .before .before .before .before .before .before .before .before .before .before .bin-count .result)
           (planned _ _ (start .pre .0) _ (start .args .dues .now) (start .pre .1 .1 .after) _ _ _ l _
           (c .before .before .before .before .before .plan-at .ensures))
-          (c .before .placing-of .ensures)
+          (c .before .placing-of .ensures .0)
           (c .before .before .before .before .before .before .before .before .before .before .before .bin-count .ensures _ _ _),
     )
 
@@ -193,7 +193,7 @@ loop-again c b m =
     (c .before .before .before .before .before .before .before .before .before .before .before .before .before .before .bin-count .result)
     (planned _ _ (start .pre .0) _ (start .args .dues .now) (m .after) _ _ _ l _
     (c .before .before .before .before .before .before .before .before .plan-at .ensures))
-    (c .before .before .before .before .placing-of .ensures)
+    (c .before .before .before .before .placing-of .ensures .0)
     (c .before .before .before .before .before .before .before .before .before .before .before .before .before .before .bin-count .ensures _ _ _)
     _
     (c .before .before .write-action .ensures)

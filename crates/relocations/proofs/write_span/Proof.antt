@@ -4,7 +4,7 @@ use native.Mathlib.Nat.{lt-of-le-of-lt}
 use native.Mathlib.Omega.{arith}
 use borrow.Author.Count.{falls}
 use borrow.Author.Needs.{needs}
-use Rattle.relocations.proofs.Spans.{places-later, slot-next, Spanning, spanning-room, spanning-starts, spanning-length, spanning-more, spanning-ends}
+use Rattle.relocations.proofs.Spans.{slot-placed, places-later, slot-next, Spanning, spanning-room, spanning-starts, spanning-length, spanning-more, spanning-ends}
 use Rattle.relocations.proofs.write_span.Statement.{statement}
 use Rattle.relocations.proofs.write_span.Tie as tie
 
@@ -44,7 +44,9 @@ smaller-requires c κs = search needs
 write-runs-requires : tie.Need-write-runs-requires Inv-loop μ-loop
 write-runs-requires c κs =
     let s = c .before .before .before .before .before .before .before .before in
-    (s .pre .0, (c .before .before .before .before .slot-of .ensures, (c .before .before .before .slot-of2 .ensures, s .pre .1)))
+    let here = slot-placed (s .pre .0 .0) (c .before .before .before .before .slot-of .ensures) in
+    let there = slot-placed (s .pre .0 .1) (c .before .before .before .slot-of2 .ensures) in
+    (s .pre .0, (here, (there, s .pre .1)))
 
 same-length : tie.Need-same-length Inv-loop μ-loop
 same-length c = search needs
@@ -58,7 +60,9 @@ mul-entry c = omega (arith, c .before .before .before .before .before .before .b
 loop-holds : tie.Need-loop-holds Inv-loop μ-loop
 loop-holds c =
     let s = c .before .before .before .before .before .before .before in
-    spanning-starts (s .pre .1 .1) (s .pre .1 .0) (c .before .before .before .slot-of .ensures) (c .before .before .slot-of2 .ensures)
+    let here = slot-placed (s .pre .0 .0) (c .before .before .before .slot-of .ensures) in
+    let there = slot-placed (s .pre .0 .1) (c .before .before .slot-of2 .ensures) in
+    spanning-starts (s .pre .1 .1) (s .pre .1 .0) here there
 
 write-row-requires : tie.Need-write-row-requires Inv-loop μ-loop
 write-row-requires c κs =

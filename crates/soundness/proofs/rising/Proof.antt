@@ -4,7 +4,7 @@ use mathlib.Core.Path.{_≡_, refl}
 use native.Mathlib.Omega.{arith}
 use Rattle.model.specs.Basics.{_and_, all, before}
 use Rattle.model.specs.Refusal.{rises}
-use Rattle.soundness.proofs.Flags.{rises-more}
+use Rattle.model.proofs.Flags.{rises-more}
 use Rattle.soundness.proofs.rising.Statement.{statement}
 use Rattle.soundness.proofs.rising.Tie as tie
 use Rattle.soundness.proofs.rising.Reads as reads

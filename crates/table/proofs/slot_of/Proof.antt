@@ -1,10 +1,11 @@
--- `relocations::slot_of` meets its contract. Assumes nothing.
+-- `table::slot_of` meets its contract. Assumes nothing.
 use Prim.Native.Nat.{_-_}
-use native.Mathlib.Nat.{div-add-mod', mod-lt}
+use mathlib.Core.Path.{refl}
+use native.Mathlib.Nat.{mod-lt}
 use native.Mathlib.Omega.{arith}
 use borrow.Author.Needs.{needs}
-use Rattle.relocations.proofs.slot_of.Statement.{statement}
-use Rattle.relocations.proofs.slot_of.Tie as tie
+use Rattle.table.proofs.slot_of.Statement.{statement}
+use Rattle.table.proofs.slot_of.Tie as tie
 
 sub-rank : tie.Need-sub-rank
 sub-rank c = search needs
@@ -21,14 +22,7 @@ div-t6 : tie.Need-div-t6
 div-t6 c = search needs
 
 returns : tie.Need-returns
-returns c =
-    let start = c .before .before .before .before in
-    let rank = start .args .bucket - start .args .placing .adjustment in
-    record {
-      after = omega arith;
-      within = omega (arith, mod-lt rank (start .pre .some));
-      whole = omega (arith, div-add-mod' rank (start .args .placing .bins));
-    }
+returns c = refl
 
 pub slot-of-spec : {M : Type 1} → statement M
 slot-of-spec = tie.close (tie.spec sub-rank rem-t4 add-t5 div-t6 returns)

@@ -1,7 +1,8 @@
--- `relocations::placing_of` meets its contract. Assumes nothing.
+-- `table::placing_of` meets its contract. Assumes nothing.
+use native.Mathlib.Omega.{arith}
 use borrow.Author.Needs.{needs}
-use Rattle.relocations.proofs.placing_of.Statement.{statement}
-use Rattle.relocations.proofs.placing_of.Tie as tie
+use Rattle.table.proofs.placing_of.Statement.{statement}
+use Rattle.table.proofs.placing_of.Tie as tie
 
 before-requires : tie.Need-before-requires
 before-requires c κs = search needs
@@ -16,7 +17,7 @@ sub-t8 : tie.Need-sub-t8
 sub-t8 c = search needs
 
 returns : tie.Need-returns
-returns c = rw (c .before .before2 .ensures)
+returns c = (rw (c .before .before2 .ensures), omega (arith, c .shared-slice-known2 .given (c .before .before .before .args .block)))
 
 pub placing-of-spec : {M : Type 1} → statement M
 placing-of-spec = tie.close (tie.spec before-requires mul-t5 shared-slice-read-t7 sub-t8 returns)

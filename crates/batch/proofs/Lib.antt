@@ -1,0 +1,4 @@
+pub mod Passing
+pub mod Pairs
+pub mod Walk
+pub mod Tests

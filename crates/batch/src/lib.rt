@@ -1,0 +1,158 @@
+// The places of a list of buckets in a sound table: one walk of its intervals.
+ghost use Prim.Native.Nat.{ℕ, _+_, _-_, _*_, _<_, _≤_};
+ghost use mathlib.Core.Path.{_≡_};
+ghost use mathlib.Core.Bool.{false};
+ghost use mathlib.Core.List.{[], _∷_};
+ghost use lib.ListN.{length, getD};
+ghost use lib.Seq.{sets};
+ghost use Rattle.model.specs.Lent.{LentSound, tableGiven};
+ghost use Rattle.model.specs.Table.{over};
+ghost use Rattle.model.specs.Place.{places};
+ghost use Rattle.model.specs.Refusal.{first, falls as fallsIn};
+ghost use Rattle.model.specs.Calls.{answer, placesTests};
+ghost use Rattle.table.specs.Placing.{Places};
+ghost use Rattle.lookup.specs.Search.{Among, Ends};
+ghost use Rattle.batch.specs.Slots.{Placed};
+use lookup::past;
+use model::table::Header;
+use table::Placing;
+use table::Slot;
+use table::placing_of;
+use table::slot_of;
+
+// 32: a bucket smaller than the one before it. No branch on what is read, so that the compiler makes vector code of it.
+fn falls(buckets: &[u32]) -> bool
+    requires { ⌜ 1 ≤ length (now buckets) ⌝ }
+    ensures { λ r. ⌜ r ≡ fallsIn (now (buckets .entry)) ⌝ }
+{
+    let mut rise = true;
+    let mut next: usize = 1;
+    while next < buckets.len() {
+        rise = rise & (buckets[next - 1] <= buckets[next]);
+        next += 1;
+    }
+    !rise
+}
+
+// How many of `most` intervals from place `from` on a bucket is past, which lies in one of them or in the next.
+fn count_past(ends: &[u32], from: usize, most: usize, bucket: u32) -> usize
+    requires { ⌜ Ends (now ends) (from + most + 1) × Among (now ends) (from + most + 1) bucket from (most + 1) ⌝ }
+    ensures { λ r. ⌜ Among (now (ends .entry)) (from + most + 1) bucket (from + r) 1 ⌝ }
+{
+    let mut count: usize = 0;
+    let mut i: usize = 0;
+    while i < most {
+        count += past(ends[from + i], bucket);
+        i += 1;
+    }
+    count
+}
+
+// So many intervals are passed over at a time.
+const STEP: usize = 8;
+
+// The place of a bucket's interval, which of k intervals is that at `from` or a later one.
+fn interval_from(ends: &[u32], k: usize, from: usize, bucket: u32) -> usize
+    requires { ⌜ Ends (now ends) k × Among (now ends) k bucket from (k - from) ⌝ }
+    ensures { λ r. ⌜ (from ≤ r) × Among (now (ends .entry)) k bucket r 1 ⌝ }
+{
+    let mut i = from;
+    while i + STEP < k {
+        if bucket < ends[i + STEP - 1] {
+            return i + count_past(ends, i, STEP - 1, bucket);
+        }
+        i += STEP;
+    }
+    i + count_past(ends, i, k - i - 1, bucket)
+}
+
+// Writes a place, from entry `at` on.
+fn write_slot(out: &mut [u32], at: usize, slot: Slot)
+    requires { ⌜ at + 2 ≤ length (now out) ⌝ }
+    ensures { λ _. ⌜ now (out .exit) ≡ sets (now (out .entry)) at (slot .bin ∷ slot .position ∷ []) ⌝ }
+{
+    out[at] = slot.bin;
+    out[at + 1] = slot.position;
+}
+
+// Writes the places of the buckets from number `from` on that are below `end`. Answers the number of the first that is not.
+fn write_interval(
+    placing: Placing,
+    end: u32,
+    buckets: &[u32],
+    from: usize,
+    out: &mut [u32],
+) -> usize
+    requires { ⌜ ((k : ℕ) → from ≤ k → k < length (now buckets) → Places placing (getD (now buckets) k 0)) ⌝ }
+    requires { ⌜ (from ≤ length (now buckets)) × (2 * length (now buckets) ≤ length (now out)) ⌝ }
+    ensures { λ r. ⌜ Placed placing end (now (buckets .entry)) from r (now (out .entry)) (now (out .exit)) ⌝ }
+{
+    let mut i = from;
+    while i < buckets.len() {
+        let bucket = buckets[i];
+        if end <= bucket {
+            return i;
+        }
+        write_slot(out, 2 * i, slot_of(placing, bucket));
+        i += 1;
+    }
+    i
+}
+
+// Writes the places of buckets that do not fall and are below B. A bucket lies in the interval of the one before it or in a later
+// one, so the walk never goes back.
+fn write_places(
+    h: Header,
+    tops: &[u32],
+    ends: &[u32],
+    blocks: &[u32],
+    adjustments: &[u32],
+    buckets: &[u32],
+    out: &mut [u32],
+)
+    requires { ⌜ LentSound h tops ends blocks adjustments ⌝ }
+    requires { ⌜ (fallsIn (now buckets) ≡ false) × ((i : ℕ) → i < length (now buckets) → getD (now buckets) i 0 < h .buckets) ⌝ }
+    requires { ⌜ 2 * length (now buckets) ≤ length (now out) ⌝ }
+    ensures { λ _. ⌜ now (out .exit) ≡ over (places (tableGiven h tops ends blocks adjustments) (now (buckets .entry))) (now (out .entry)) ⌝ }
+{
+    let mut interval: usize = 0;
+    let mut placed: usize = 0;
+    while placed < buckets.len() {
+        interval = interval_from(ends, h.interval_count as usize, interval, buckets[placed]);
+        let placing = placing_of(tops, blocks[interval] as usize, adjustments[interval]);
+        placed = write_interval(placing, ends[interval], buckets, placed, out);
+    }
+}
+
+// Writes the places of a list of buckets, or answers refusal 32 or 6. In a list that does not fall the last bucket is the largest.
+pub fn placed_each(
+    h: Header,
+    tops: &[u32],
+    ends: &[u32],
+    blocks: &[u32],
+    adjustments: &[u32],
+    buckets: &[u32],
+    out: &mut [u32],
+) -> u32
+    requires { ⌜ LentSound h tops ends blocks adjustments ⌝ }
+    requires { ⌜ 2 * length (now buckets) ≤ length (now out) ⌝ }
+    ensures { λ r. ⌜ r ≡ first (placesTests (tableGiven h tops ends blocks adjustments) (now (buckets .entry))) ⌝ }
+    ensures { λ r.
+        ⌜
+        now (out .exit) ≡ answer r (over (places (tableGiven h tops ends blocks adjustments) (now (buckets .entry))) (now (out .entry)))
+        (now (out .entry))
+        ⌝ }
+{
+    let count = buckets.len();
+    if count == 0 {
+        return 0;
+    }
+    if falls(buckets) {
+        return 32;
+    }
+    if h.buckets <= buckets[count - 1] {
+        return 6;
+    }
+    write_places(h, tops, ends, blocks, adjustments, buckets, out);
+    0
+}
