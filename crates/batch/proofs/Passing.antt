@@ -10,7 +10,6 @@ use Rattle.model.proofs.Counts.{below-or}
 use Rattle.model.proofs.Intervals.{Rising, before-mono}
 use Rattle.model.proofs.Rules.{before-next}
 use Rattle.lookup.specs.Search.{Among, Ends}
-use Rattle.lookup.proofs.Narrowing.{Past}
 
 -- of the intervals from place `from` on, i have been looked at, and the bucket is past the first `count` of them
 pub record Passing (ends : List ℕ) (from bucket count i : ℕ) : Type 0 where
@@ -34,32 +33,29 @@ module _ {ends : List ℕ} {n from bucket count i : ℕ} (rise : Rising ends n) 
       (λ k. omega (arith, s .most))
       (below-or count i)
 
-  -- the next one
-  pub passing-more : {r : ℕ} → Past (getD ends (from + i) 0) bucket r → Passing ends from bucket (count + r) (i + 1)
-  passing-more {r} w =
-      ⊎-elim
-      (λ y.
-      let same = all-past (y .0) in
-      let there : from + (count + r) ≡ from + i + 1 = omega (arith, y .1, same) in
+  -- the next one: the bucket is past it, or not
+  pub passing-more : getD ends (from + i) 0 ≤ bucket → Passing ends from bucket (count + 1) (i + 1)
+  passing-more p =
+      let same = all-past p in
+      let there : from + (count + 1) ≡ from + i + 1 = omega (arith, same) in
       record {
-        most = omega (arith, y .1, same);
-        after = rw there (omega (arith, before-next ends (from + i), y .0));
-        stop = λ k. absurd (omega (arith, k, y .1, same));
-      })
-      (λ m.
-      let there : from + (count + r) ≡ from + count = omega (arith, m .1) in
+        most = omega (arith, same);
+        after = rw there (omega (arith, before-next ends (from + i), p));
+        stop = λ k. absurd (omega (arith, k, same));
+      }
+
+  pub passing-same : bucket < getD ends (from + i) 0 → Passing ends from bucket count (i + 1)
+  passing-same m =
       record {
-        most = omega (arith, m .1, s .most);
-        after = rw there (s .after);
+        most = omega (arith, s .most);
+        after = s .after;
         stop =
             λ k.
-            rw there
-            (⊎-elim
+            ⊎-elim
             (λ (e : count < i). s .stop e)
-            (λ (e : i ≤ count). let same : from + count ≡ from + i = omega (arith, s .most) in rw same (m .0))
-            (below-or count i));
-      })
-      w
+            (λ (e : i ≤ count). let same : from + count ≡ from + i = omega (arith, s .most) in rw same m)
+            (below-or count i);
+      }
 
 -- after the last one but the one that it cannot be past
 pub passing-ends

@@ -68,21 +68,23 @@ module _
 
     pub found-places
         : (p : Placing) → p ≡ placingAt a j → p .first + p .bins < 2 ^ 32
-        → (k : ℕ) → i ≤ k → k < length xs → Places p (getD xs k 0)
+        → (k : ℕ) → i ≤ k → k < length xs → Places p (getD xs k 0) × (getD xs k 0 < 2 ^ 30)
     found-places p e fits k b c =
-        let some = sound .topsRise _ (sound .blocksBelow j found-within) in
-        record {
-          some = omega (arith, ap (λ p. p .bins) e, some);
-          fits = fits;
-          ranked =
-              omega (
-                arith,
-                ap (λ p. p .adjustment) e,
-                adjustment-below h a sound j found-within,
-                m .from,
-                falls-not xs (asked .0) i k b c,
-              );
-        }
+        let some = sound .topsRise _ (sound .blocksBelow j found-within) in (
+          record {
+            some = omega (arith, ap (λ p. p .bins) e, some);
+            fits = fits;
+            ranked =
+                omega (
+                  arith,
+                  ap (λ p. p .adjustment) e,
+                  adjustment-below h a sound j found-within,
+                  m .from,
+                  falls-not xs (asked .0) i k b c,
+                );
+          },
+          omega (arith, asked .1 k c, sound .bucketLimit),
+        )
 
     module _ {p : Placing} {r : ℕ} {out out′ : List ℕ} (e : p ≡ placingAt a j) (w : Placed p (getD (a .ends) j 0) xs i r out out′) where
       -- at least that bucket is placed

@@ -1,5 +1,5 @@
 // The places of a list of buckets in a sound table: one walk of its intervals.
-ghost use Prim.Native.Nat.{ℕ, _+_, _-_, _*_, _<_, _≤_};
+ghost use Prim.Native.Nat.{ℕ, _+_, _-_, _*_, _^_, _<_, _≤_};
 ghost use mathlib.Core.Path.{_≡_};
 ghost use mathlib.Core.Bool.{false};
 ghost use mathlib.Core.List.{[], _∷_};
@@ -10,15 +10,17 @@ ghost use Rattle.model.specs.Table.{over};
 ghost use Rattle.model.specs.Place.{places};
 ghost use Rattle.model.specs.Refusal.{first, falls as fallsIn};
 ghost use Rattle.model.specs.Calls.{answer, placesTests};
+ghost use Rattle.reciprocal.specs.Divides.{Divides};
 ghost use Rattle.table.specs.Placing.{Places};
 ghost use Rattle.lookup.specs.Search.{Among, Ends};
 ghost use Rattle.batch.specs.Slots.{Placed};
-use lookup::past;
 use model::table::Header;
+use reciprocal::Reciprocal;
+use reciprocal::reciprocal_of;
 use table::Placing;
 use table::Slot;
 use table::placing_of;
-use table::slot_of;
+use table::slot_by;
 
 // 32: a bucket smaller than the one before it. No branch on what is read, so that the compiler makes vector code of it.
 fn falls(buckets: &[u32]) -> bool
@@ -34,7 +36,8 @@ fn falls(buckets: &[u32]) -> bool
     !rise
 }
 
-// How many of `most` intervals from place `from` on a bucket is past, which lies in one of them or in the next.
+// How many of `most` intervals from place `from` on a bucket is past, which lies in one of them or in the next. The compiler makes
+// no branch of what is read.
 fn count_past(ends: &[u32], from: usize, most: usize, bucket: u32) -> usize
     requires { ⌜ Ends (now ends) (from + most + 1) × Among (now ends) (from + most + 1) bucket from (most + 1) ⌝ }
     ensures { λ r. ⌜ Among (now (ends .entry)) (from + most + 1) bucket (from + r) 1 ⌝ }
@@ -42,7 +45,9 @@ fn count_past(ends: &[u32], from: usize, most: usize, bucket: u32) -> usize
     let mut count: usize = 0;
     let mut i: usize = 0;
     while i < most {
-        count += past(ends[from + i], bucket);
+        if ends[from + i] <= bucket {
+            count += 1;
+        }
         i += 1;
     }
     count
@@ -78,13 +83,14 @@ fn write_slot(out: &mut [u32], at: usize, slot: Slot)
 // Writes the places of the buckets from number `from` on that are below `end`. Answers the number of the first that is not.
 fn write_interval(
     placing: Placing,
+    by: Reciprocal,
     end: u32,
     buckets: &[u32],
     from: usize,
     out: &mut [u32],
 ) -> usize
-    requires { ⌜ ((k : ℕ) → from ≤ k → k < length (now buckets) → Places placing (getD (now buckets) k 0)) ⌝ }
-    requires { ⌜ (from ≤ length (now buckets)) × (2 * length (now buckets) ≤ length (now out)) ⌝ }
+    requires { ⌜ ((k : ℕ) → from ≤ k → k < length (now buckets) → Places placing (getD (now buckets) k 0) × (getD (now buckets) k 0 < 2 ^ 30)) ⌝ }
+    requires { ⌜ (from ≤ length (now buckets)) × (2 * length (now buckets) ≤ length (now out)) × Divides by (placing .bins) ⌝ }
     ensures { λ r. ⌜ Placed placing end (now (buckets .entry)) from r (now (out .entry)) (now (out .exit)) ⌝ }
 {
     let mut i = from;
@@ -93,7 +99,7 @@ fn write_interval(
         if end <= bucket {
             return i;
         }
-        write_slot(out, 2 * i, slot_of(placing, bucket));
+        write_slot(out, 2 * i, slot_by(placing, by, bucket));
         i += 1;
     }
     i
@@ -120,7 +126,8 @@ fn write_places(
     while placed < buckets.len() {
         interval = interval_from(ends, h.interval_count as usize, interval, buckets[placed]);
         let placing = placing_of(tops, blocks[interval] as usize, adjustments[interval]);
-        placed = write_interval(placing, ends[interval], buckets, placed, out);
+        let by = reciprocal_of(placing.bins);
+        placed = write_interval(placing, by, ends[interval], buckets, placed, out);
     }
 }
 

@@ -30,7 +30,7 @@ struct Span {
 }
 
 // 1 where a bucket is past an end, and 0 where it is not: by arithmetic, so that the search has no branch on it.
-pub fn past(end: u32, bucket: u32) -> usize
+fn past(end: u32, bucket: u32) -> usize
     ensures { λ r. ⌜ ((end ≤ bucket) × (r ≡ 1)) ⊎ ((bucket < end) × (r ≡ 0)) ⌝ }
 {
     ((bucket as u64 + 4_294_967_296 - end as u64) / 4_294_967_296) as usize

@@ -2,6 +2,8 @@
 // interval are placed; and the copying of an array.
 use model::limits::INTERVALS;
 use model::table::Header;
+use reciprocal::Reciprocal;
+use reciprocal::quotient;
 ghost use Prim.Native.Nat.{ℕ, _+_, _*_, _^_, min, _≤_, _<_};
 ghost use mathlib.Core.List.{List};
 ghost use mathlib.Core.Path.{_≡_};
@@ -10,6 +12,7 @@ ghost use Rattle.model.specs.Lent.{TopsSound, lent};
 ghost use Rattle.model.specs.Basics.{before as entryBefore};
 ghost use Rattle.model.specs.Limits.{maxIntervals};
 ghost use Rattle.model.specs.Table.{bins as binsOf, over};
+ghost use Rattle.reciprocal.specs.Divides.{Divides};
 ghost use Rattle.table.specs.Placing.{placingOf, Places, slotOf};
 
 // How the buckets of an interval are placed: the first bin and the number of bins of its block, and its rank adjustment.
@@ -76,6 +79,19 @@ pub fn slot_of(placing: Placing, bucket: u32) -> Slot
     Slot {
         bin: placing.first + rank % placing.bins,
         position: rank / placing.bins,
+    }
+}
+
+// The same by the reciprocal of the bins, for many buckets of one interval.
+pub fn slot_by(placing: Placing, by: Reciprocal, bucket: u32) -> Slot
+    requires { ⌜ (Places placing bucket) × (bucket < 2 ^ 30) × Divides by (placing .bins) ⌝ }
+    ensures { λ r. ⌜ r ≡ slotOf placing bucket ⌝ }
+{
+    let rank = bucket - placing.adjustment;
+    let position = quotient(rank, by);
+    Slot {
+        bin: placing.first + (rank - position * placing.bins),
+        position,
     }
 }
 

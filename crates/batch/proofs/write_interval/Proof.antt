@@ -11,10 +11,10 @@ use Rattle.batch.proofs.write_interval.Statement.{statement}
 use Rattle.batch.proofs.write_interval.Tie as tie
 
 abbrev Inv-loop : tie.InvT-loop
-Inv-loop placing end buckets from out₀ i₀ out i = Filling placing end buckets from i out₀ out
+Inv-loop placing by end buckets from out₀ i₀ out i = Filling placing end buckets from i out₀ out
 
 abbrev μ-loop : tie.MeasureT-loop
-μ-loop placing end buckets from out₀ i₀ out i = length buckets - i
+μ-loop placing by end buckets from out₀ i₀ out i = length buckets - i
 
 loop-holds : tie.Need-loop-holds Inv-loop μ-loop
 loop-holds c = filling-none _ _ _ _ _ (c .before .before .pre .1 .0)
@@ -34,10 +34,12 @@ returns c = filling-ends (c .before .before .before .loop .inv) (λ l. c .if1 .t
 mul-write-slot : tie.Need-mul-write-slot Inv-loop μ-loop
 mul-write-slot c = omega arith
 
-slot-of-requires : tie.Need-slot-of-requires Inv-loop μ-loop
-slot-of-requires c κs =
+slot-by-requires : tie.Need-slot-by-requires Inv-loop μ-loop
+slot-by-requires c κs =
     let in-loop = c .before .before .before in
-    in-loop .before .before .before .before .pre .0 _ (in-loop .before .loop .inv .on) (in-loop .loop-test .taken)
+    let start = in-loop .before .before .before .before in
+    let placed = start .pre .0 _ (in-loop .before .loop .inv .on) (in-loop .loop-test .taken) in
+    (placed .0, placed .1, start .pre .1 .2)
 
 write-slot-requires : tie.Need-write-slot-requires Inv-loop μ-loop
 write-slot-requires c κs =
@@ -57,7 +59,7 @@ loop-again c =
     let in-loop = tested .before .before in
     filling-more (in-loop .before .loop .inv) (in-loop .loop-test .taken) (tested .if1 .left)
     (c .before .before .write-slot .ensures
-    ∙ ap (λ s. sets (in-loop .before .loop .out) (2 * in-loop .before .loop .i) (s .bin ∷ s .position ∷ [])) (slots .slot-of .ensures))
+    ∙ ap (λ s. sets (in-loop .before .loop .out) (2 * in-loop .before .loop .i) (s .bin ∷ s .position ∷ [])) (slots .slot-by .ensures))
 
 same-length-2 : tie.Need-same-length-2 Inv-loop μ-loop
 same-length-2 c = put-length (c .before .loop .inv .put)
@@ -77,7 +79,7 @@ write-interval-spec =
     same-length
     returns
     mul-write-slot
-    slot-of-requires
+    slot-by-requires
     write-slot-requires
     add-i
     loop-less

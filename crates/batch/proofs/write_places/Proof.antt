@@ -1,5 +1,6 @@
 -- `batch::write_places` meets its contract: so many buckets are placed, and the walk is at the interval of the last. Assumes nothing.
 use Prim.Native.Nat.{_-_, _<_}
+use mathlib.Core.Path.{ap}
 use native.Mathlib.Omega.{arith}
 use lib.ListN.{length}
 use Rattle.model.specs.Table.{Arrays, arrays}
@@ -74,31 +75,43 @@ placing-of-requires c κs =
     let block = s .pre .0 .blocksBelow _ (within (c .before .before)) in
     (omega (arith, block, s .pre .0 .topsLong), omega (arith, s .pre .0 .topsRise _ block))
 
+reciprocal-of-requires : tie.Need-reciprocal-of-requires Inv-loop μ-loop
+reciprocal-of-requires c κs =
+    let found = c .before .before .before in
+    let s = start (found .before .before .before .before) in
+    let block = s .pre .0 .blocksBelow _ (within found) in
+    omega (arith, ap (λ p. p .bins) (c .placing-of .ensures .0), s .pre .0 .topsRise _ block)
+
 mul-write-interval : tie.Need-mul-write-interval Inv-loop μ-loop
 mul-write-interval c =
-    omega (arith, within (c .before .before .before), start (c .before .before .before .before .before .before .before) .pre .0 .intervalLimit)
+    let found = c .before .before .before .before in
+    omega (arith, within found, start (found .before .before .before .before) .pre .0 .intervalLimit)
 
 shared-slice-read-write-interval : tie.Need-shared-slice-read-write-interval Inv-loop μ-loop
 shared-slice-read-write-interval c =
-    let found = c .before .before .before .before in
+    let found = c .before .before .before .before .before in
     omega (arith, within found, start (found .before .before .before .before) .pre .0 .endsLong)
 
--- a turn from where the places of an interval are written
 write-interval-requires : tie.Need-write-interval-requires Inv-loop μ-loop
 write-interval-requires c κs =
-    let placed = c .before .before in
+    let divided = c .before .before in
+    let placed = divided .before in
     let found = placed .before .before .before in
     let turn = found .before .before .before in
     let s = start (turn .before) in (
       found-places (s .args .buckets .now) (s .pre .0) (s .pre .1 .0) (more turn) (found .interval-from .ensures .1) _
           (placed .placing-of .ensures .0) (placed .placing-of .ensures .1),
-      (turn .before .loop .inv .on, omega (arith, put-length (turn .before .loop .inv .put), s .pre .1 .1)),
+      (
+        turn .before .loop .inv .on,
+        omega (arith, put-length (turn .before .loop .inv .put), s .pre .1 .1),
+        divided .reciprocal-of .ensures,
+      ),
     )
 
 loop-less : tie.Need-loop-less Inv-loop μ-loop
 loop-less c =
     let written = c .before .before in
-    let placed = written .before .before .before in
+    let placed = written .before .before .before .before in
     let found = placed .before .before .before in
     let turn = found .before .before .before in
     let s = start (turn .before) in
@@ -112,7 +125,7 @@ loop-less c =
 loop-again : tie.Need-loop-again Inv-loop μ-loop
 loop-again c =
     let written = c .before .before in
-    let placed = written .before .before .before in
+    let placed = written .before .before .before .before in
     let found = placed .before .before .before in
     let turn = found .before .before .before in
     let s = start (turn .before) in
@@ -144,6 +157,7 @@ write-places-spec =
     mul-placing-of-2
     shared-slice-read-placing-of-2
     placing-of-requires
+    reciprocal-of-requires
     mul-write-interval
     shared-slice-read-write-interval
     write-interval-requires
