@@ -1,4 +1,4 @@
-# For C programmers: the library of the nine calls, the program, the example, the tests, the installation.
+# For C programmers: the library of the ten calls, the program, the example, the tests, the installation.
 #
 #   make                  the library target/c/libirr.a, the program target/bin/rackmap, the example
 #   make check            the host tests and the test of the installation

@@ -20,6 +20,8 @@ enum {
 	MAX_SAVED = 12 + 4 * MAX_BLOCKS + 8 * MAX_INTERVALS,
 	PAGE = 8192,       /* rows of the longer page of the move list */
 	SHORT_PAGE = 64,
+	LIST = 100000,     /* buckets of the longest list */
+	SHORT_LIST = 300,
 	ARGUMENTS = 1024,  /* a power of 2: the calls of a measurement go round them */
 	PAST = 4,          /* entries behind a lent array, which no call may write */
 	MAX_WORKS = 64
@@ -27,10 +29,13 @@ enum {
 
 /* ---------------------------------------------------------------- the calls */
 
-enum call {INITIAL, EXPAND, RELOCATIONS, PLACE, FIND, BIN_SIZE, ROOM, SAVE, LOAD, CALL_COUNT};
+enum call {
+	INITIAL, EXPAND, RELOCATIONS, PLACE, PLACES, FIND, BIN_SIZE, ROOM, SAVE, LOAD, CALL_COUNT
+};
 
 static const char *const names[CALL_COUNT] = {
-	"initial", "expand", "relocations", "place", "find", "bin_size", "room", "save", "load",
+	"initial", "expand", "relocations", "place", "places", "find", "bin_size", "room", "save",
+	"load",
 };
 
 struct calls {
@@ -38,6 +43,7 @@ struct calls {
 	__typeof__(irr_expand) *expand;
 	__typeof__(irr_relocations) *relocations;
 	__typeof__(irr_place) *place;
+	__typeof__(irr_places) *places;
 	__typeof__(irr_find) *find;
 	__typeof__(irr_bin_size) *bin_size;
 	__typeof__(irr_room) *room;
@@ -46,12 +52,12 @@ struct calls {
 };
 
 static const struct calls proved = {
-	irr_initial, irr_expand, irr_relocations, irr_place, irr_find,
+	irr_initial, irr_expand, irr_relocations, irr_place, irr_places, irr_find,
 	irr_bin_size, irr_room, irr_save, irr_load,
 };
 
 static const struct calls plain = {
-	plain_initial, plain_expand, plain_relocations, plain_place, plain_find,
+	plain_initial, plain_expand, plain_relocations, plain_place, plain_places, plain_find,
 	plain_bin_size, plain_room, plain_save, plain_load,
 };
 
@@ -72,6 +78,30 @@ sum_of_table(struct irr_header h, const uint32_t *tops, size_t tops_length,
 }
 
 static const struct calls summing = {.bin_size = sum_of_table};
+
+/* In the place of `places`, a proved `place` for each bucket. */
+static struct irr_places_reply
+place_each(struct irr_header h, const uint32_t *tops, size_t tops_length,
+	   const uint32_t *ends, size_t ends_length, const uint32_t *blocks, size_t blocks_length,
+	   const uint32_t *adjustments, size_t adjustments_length,
+	   const uint32_t *buckets, size_t buckets_length, uint32_t *places, size_t places_length)
+{
+	uint32_t refusal = 0;
+
+	(void)places_length;
+	for (size_t n = 0; n < buckets_length; n++) {
+		struct irr_place_reply reply =
+			irr_place(h, tops, tops_length, ends, ends_length, blocks, blocks_length,
+				  adjustments, adjustments_length, buckets[n]);
+
+		refusal |= reply.refusal;
+		places[2 * n] = reply.bin;
+		places[2 * n + 1] = reply.position;
+	}
+	return (struct irr_places_reply){refusal};
+}
+
+static const struct calls single = {.places = place_each};
 
 struct map {
 	struct irr_header header;
@@ -170,6 +200,8 @@ struct question {
 	size_t rows_length, buffer_length;
 	const uint8_t *bytes;    /* the file */
 	size_t bytes_length;
+	const uint32_t *buckets; /* the list */
+	size_t buckets_length, places_length;
 };
 
 struct answer {
@@ -178,7 +210,13 @@ struct answer {
 	uint32_t blocks[MAX_INTERVALS + PAST], adjustments[MAX_INTERVALS + PAST];
 	uint32_t rows[5 * PAGE + PAST];
 	uint8_t buffer[MAX_SAVED + PAST];
+	uint32_t places[2 * LIST + PAST]; /* last: only what is lent of it is compared */
 };
+
+static size_t answer_size(const struct question *q)
+{
+	return offsetof(struct answer, places) + (q->places_length + PAST) * sizeof(uint32_t);
+}
 
 #define REPLY(a, call) do {                                       \
 	__typeof__(call) reply = (call);                          \
@@ -193,7 +231,7 @@ struct answer {
 
 static void ask(const struct calls *c, const struct question *q, struct answer *a)
 {
-	memset(a, 0xa5, sizeof *a);
+	memset(a, 0xa5, answer_size(q));
 	switch (q->call) {
 	case INITIAL:
 		REPLY(a, c->initial(q->x, q->y, NEW(q, a)));
@@ -206,6 +244,10 @@ static void ask(const struct calls *c, const struct question *q, struct answer *
 		break;
 	case PLACE:
 		REPLY(a, c->place(LENT(q), q->x));
+		break;
+	case PLACES:
+		REPLY(a, c->places(LENT(q), q->buckets, q->buckets_length,
+				   a->places, q->places_length));
 		break;
 	case FIND:
 		REPLY(a, c->find(LENT(q), q->x, q->y));
@@ -225,7 +267,7 @@ static void ask(const struct calls *c, const struct question *q, struct answer *
 }
 
 static unsigned long questions, accepted;
-static bool seen[22]; /* refusals */
+static bool seen[34]; /* refusals */
 
 /* Asks both. Ends the program if their replies or any array that they were lent differ, or
  * if an array that is only to be read has changed. */
@@ -234,18 +276,23 @@ static void compare(const struct question *q)
 	static struct answer of_proved, of_plain;
 	static struct map table;
 	static uint8_t file[MAX_SAVED];
+	static uint32_t list[LIST];
+	size_t list_size = q->buckets_length * sizeof *list;
 	uint32_t refusal;
 
 	table = *q->map;
 	memcpy(file, q->bytes, q->bytes_length);
+	memcpy(list, q->buckets, list_size);
 	ask(&proved, q, &of_proved);
 	ask(&plain, q, &of_plain);
 	refusal = of_plain.reply[0];
-	if (memcmp(&of_proved, &of_plain, sizeof of_plain) != 0 ||
+	if (memcmp(&of_proved, &of_plain, answer_size(q)) != 0 ||
 	    memcmp(&table, q->map, sizeof table) != 0 ||
-	    memcmp(file, q->bytes, q->bytes_length) != 0) {
-		fprintf(stderr, "calls: %s of %u, %u, %u differs: refusals %u and %u\n",
-			names[q->call], q->x, q->y, q->z, of_proved.reply[0], refusal);
+	    memcmp(file, q->bytes, q->bytes_length) != 0 ||
+	    memcmp(list, q->buckets, list_size) != 0) {
+		fprintf(stderr, "calls: %s of %u, %u, %u or of %zu buckets differs: "
+			"refusals %u and %u\n", names[q->call], q->x, q->y, q->z,
+			q->buckets_length, of_proved.reply[0], refusal);
 		exit(1);
 	}
 	questions++;
@@ -257,6 +304,8 @@ static void compare(const struct question *q)
 /* The question with full arrays. */
 static struct question full_question(enum call call, const struct map *m)
 {
+	static const uint32_t no_buckets[1];
+
 	return (struct question){
 		.call = call,
 		.map = m,
@@ -265,6 +314,7 @@ static struct question full_question(enum call call, const struct map *m)
 		.rows_length = 5 * SHORT_PAGE,
 		.buffer_length = MAX_SAVED,
 		.bytes = (const uint8_t *)"",
+		.buckets = no_buckets,
 	};
 }
 
@@ -305,6 +355,30 @@ static void damage(struct map *m)
 	*entry = near(*entry);
 }
 
+/* A random list, with repeats and gaps, and room for its places. Mostly it does not fall. */
+static void ask_list(struct question *q, const struct map *m)
+{
+	static uint32_t buckets[SHORT_LIST];
+	uint32_t count = below(4) ? below(SHORT_LIST + 1) : below(4);
+	uint32_t gap = below(4) ? 2 * (m->header.buckets / (count + 1)) + 2 : 1 + below(3);
+	uint32_t bucket = below(gap);
+
+	for (uint32_t n = 0; n < count; n++) {
+		if (bucket >= m->header.buckets)
+			bucket = m->header.buckets - 1;
+		buckets[n] = bucket;
+		bucket += below(gap);
+	}
+	for (uint32_t times = count > 0 ? below(3) : 0; times > 0; times--) {
+		uint32_t n = below(2) ? below(count) : count - 1;
+
+		buckets[n] = near(below(2) ? buckets[n] : m->header.buckets);
+	}
+	q->buckets = buckets;
+	q->buckets_length = count;
+	q->places_length = 2 * count + below(3) * below(2);
+}
+
 /* Random numbers for a question about m: mostly such that it is accepted. */
 static void ask_numbers(struct question *q, const struct map *m)
 {
@@ -327,6 +401,9 @@ static void ask_numbers(struct question *q, const struct map *m)
 	case PLACE:
 		q->x = below(4) ? below(buckets) : near(buckets);
 		break;
+	case PLACES:
+		ask_list(q, m);
+		break;
 	default:
 		q->x = below(4) ? below(bins) : near(bins);
 		q->y = below(4) ? below(buckets / bins + 1) : near(buckets / bins);
@@ -345,6 +422,8 @@ static void ask_lengths(struct question *q, const struct map *m)
 	q->new_lengths[below(4)] -= below(4) == 0;
 	q->rows_length = below(5 * SHORT_PAGE);
 	q->buffer_length = needed - (below(4) == 0);
+	q->places_length = 2 * q->buckets_length;
+	q->places_length -= q->places_length > 0 && below(4) == 0;
 }
 
 /* One random question of each kind about a map, whole or damaged. */
@@ -387,7 +466,8 @@ static void compare_growths(const struct map *m)
 
 static void compare_random(const struct map *large, size_t count)
 {
-	static const int numbers[] = {1, 2, 3, 4, 5, 6, 7, 8, 9, 11, 12, 13, 14, 15, 16, 21};
+	static const int numbers[] = {1, 2, 3, 4, 5, 6, 7, 8, 9, 11, 12, 13, 14, 15, 16, 21,
+				      32, 33};
 	struct map m;
 
 	for (int i = 0; i < 3000; i++) {
@@ -411,14 +491,19 @@ struct work {
 	size_t bytes_length;
 	uint8_t bytes[MAX_SAVED];
 	uint32_t x[ARGUMENTS], y[ARGUMENTS], z;
+	const uint32_t *lists;  /* of so many buckets each; their number is a power of 2 */
+	size_t list_length, list_count;
 	size_t times;           /* calls in a round */
-	double *seconds[3];     /* of each round: proved, plain, and the sum for bin_size */
+	const struct calls *third; /* what is measured besides, or NULL: so many calls of it */
+	size_t third_times;
+	double *seconds[3];     /* of each round: proved, plain, and the third */
 	double *ratios;         /* proved to plain, of each round */
 };
 
 /* What the measured calls write. */
 static struct map out;
 static uint32_t rows[5 * PAGE];
+static uint32_t places[2 * LIST];
 static uint8_t buffer[MAX_SAVED];
 
 #define LOOP(name) static uint32_t name(const struct calls *c, const struct work *w, size_t times)
@@ -463,6 +548,19 @@ LOOP(place_loop)
 	EACH_CALL
 		sum += c->place(w->map->header, ARRAYS(w->map), w->x[TURN]).position;
 	return sum;
+}
+
+LOOP(places_loop)
+{
+	uint32_t sum = 0;
+
+	EACH_CALL {
+		const uint32_t *list = w->lists + w->list_length * (n & (w->list_count - 1));
+
+		sum += c->places(w->map->header, ARRAYS(w->map), list, w->list_length,
+				 places, 2 * w->list_length).refusal;
+	}
+	return sum + places[0];
 }
 
 LOOP(find_loop)
@@ -511,7 +609,7 @@ LOOP(load_loop)
 }
 
 static uint32_t (*const loops[CALL_COUNT])(const struct calls *, const struct work *, size_t) = {
-	initial_loop, expand_loop, relocations_loop, place_loop, find_loop,
+	initial_loop, expand_loop, relocations_loop, place_loop, places_loop, find_loop,
 	bin_size_loop, room_loop, save_loop, load_loop,
 };
 
@@ -586,6 +684,9 @@ static void measure(struct work *works, size_t count, int rounds)
 
 	for (size_t i = 0; i < count; i++) {
 		works[i].times = calls_for(&works[i]);
+		/* as many calls, or few where one does the work of many */
+		works[i].third_times = works[i].call == PLACES ? works[i].times / 64 + 1
+							       : works[i].times;
 		for (int which = 0; which < 3; which++)
 			works[i].seconds[which] = room_for(rounds);
 		works[i].ratios = room_for(rounds);
@@ -599,13 +700,13 @@ static void measure(struct work *works, size_t count, int rounds)
 
 				w->seconds[which][round] = seconds(both[which], w, w->times, round);
 			}
-			if (w->call == BIN_SIZE)
-				w->seconds[2][round] = seconds(&summing, w, w->times, round);
+			if (w->third != NULL)
+				w->seconds[2][round] = seconds(w->third, w, w->third_times, round);
 			w->ratios[round] = w->seconds[0][round] / w->seconds[1][round];
 		}
 	}
 	for (size_t i = 0; i < count; i++) {
-		for (int which = 0; which < (works[i].call == BIN_SIZE ? 3 : 2); which++)
+		for (int which = 0; which < (works[i].third != NULL ? 3 : 2); which++)
 			qsort(works[i].seconds[which], (size_t)rounds, sizeof(double), ascending);
 		qsort(works[i].ratios, (size_t)rounds, sizeof(double), ascending);
 	}
@@ -621,12 +722,19 @@ static void compare_work(const struct work *w)
 	q.rows_length = w->rows_length;
 	q.bytes = w->bytes;
 	q.bytes_length = w->bytes_length;
-	for (int i = 0; i < ARGUMENTS; i++) {
+	q.buckets_length = w->list_length;
+	q.places_length = 2 * w->list_length;
+
+	size_t count = w->call == PLACES ? w->list_count : ARGUMENTS;
+
+	for (size_t i = 0; i < count; i++) {
 		q.x = w->x[i];
 		q.y = w->y[i];
+		if (w->call == PLACES)
+			q.buckets = w->lists + w->list_length * i;
 		compare(&q);
 	}
-	if (accepted - before != ARGUMENTS)
+	if (accepted - before != count)
 		fail("a call that is to be measured is refused", 2);
 }
 
@@ -645,6 +753,7 @@ static struct work *add(enum call call, const struct map *m, const char *what)
 	w->call = call;
 	w->map = m;
 	snprintf(w->what, sizeof w->what, "%s", what);
+	w->third = call == BIN_SIZE ? &summing : NULL;
 	w->bytes_length = plain.save(m->header, ARRAYS(m), w->bytes, MAX_SAVED).length;
 	for (int i = 0; i < ARGUMENTS; i++) {
 		uint32_t bins = bins_of(m);
@@ -698,6 +807,33 @@ static void add_pages(const struct map *m, uint32_t bins, const char *where)
 	add_page(m, bins, true, SHORT_PAGE, where);
 }
 
+static int ascending_numbers(const void *a, const void *b)
+{
+	uint32_t x = *(const uint32_t *)a, y = *(const uint32_t *)b;
+
+	return x < y ? -1 : x > y;
+}
+
+/* Lists of so many random buckets each: many, so that the branches of none are learnt by
+ * heart. */
+static struct work *add_lists(const struct map *m, size_t length, size_t count, const char *where)
+{
+	struct work *w = add(PLACES, m, "");
+	uint32_t *lists = malloc(length * count * sizeof *lists);
+
+	if (lists == NULL)
+		fail("no memory", 2);
+	for (size_t i = 0; i < length * count; i++)
+		lists[i] = below(m->header.buckets);
+	for (size_t i = 0; i < count; i++)
+		qsort(lists + length * i, length, sizeof *lists, ascending_numbers);
+	w->lists = lists;
+	w->list_length = length;
+	w->list_count = count;
+	snprintf(w->what, sizeof w->what, "%s: a list of %s", where, grouped((double)length));
+	return w;
+}
+
 /* The maps of the measurements, by their blocks or what becomes of them; the widest, which
  * has as many bins as a map may have, is only asked about. */
 enum {ONE, TWELVE, THIRTY_TWO, SIXTY_FOUR, LARGEST, HALVED_ONE, HALVED_TEN, WIDEST, MAP_COUNT};
@@ -725,6 +861,9 @@ static void add_calls(void)
 		add(plain_ones[i], all, "largest");
 		add(plain_ones[i], one, "fresh");
 	}
+	add_lists(all, 1, ARGUMENTS, "largest");
+	add_lists(all, SHORT_LIST, 256, "largest")->third = &single;
+	add_lists(all, LIST, 1, "largest");
 	add_growth(EXPAND, all, all->header.buckets + 1, bins_of(all),
 		   "largest: one bucket more, which lengthens the last interval");
 	add_growth(EXPAND, most, most->header.buckets, bins_of(most) + 1,
@@ -785,7 +924,8 @@ static void print_table(const char *title, const struct work *from, const struct
 	printf("\n%s\n\n| call | table | proved | C | proved time / C time | quartiles |\n", title);
 	printf("|---|---|---:|---:|---:|---:|\n");
 	for (const struct work *w = from; w < to; w++) {
-		double units = (double)w->times * (w->call == RELOCATIONS ? w->rows : 1);
+		double units = (double)w->times * (w->call == RELOCATIONS ? w->rows :
+						   w->call == PLACES ? (double)w->list_length : 1);
 
 		printf("| `%s` | %s | %s | %s | %.2f | %.2f to %.2f |\n", names[w->call], w->what,
 		       grouped(units / quartile(w->seconds[0], 2)),
@@ -815,6 +955,22 @@ static void print_bytes(void)
 		       grouped(bytes * (double)w->times / taken),
 		       taken / quartile(w->seconds[2], 2));
 	}
+}
+
+/* What a list costs in one call, and bucket by bucket. */
+static void print_single(void)
+{
+	const struct work *w = works;
+
+	while (w->third != &single)
+		w++;
+
+	double batch = quartile(w->seconds[0], 2) / (double)w->times;
+	double each = quartile(w->seconds[2], 2) / (double)w->third_times;
+
+	printf("\n%zu buckets of the largest table, both proved: %.2f microseconds in one call of\n"
+	       "`places`, %.2f in %zu calls of `place`, which is %.0f times as long.\n",
+	       w->list_length, 1e6 * batch, 1e6 * each, w->list_length, each / batch);
 }
 
 static void print_slower(void)
@@ -857,10 +1013,12 @@ int main(int argc, char **argv)
 
 	measure(works, work_count, rounds);
 	print_histories();
-	print_table("Calls a second, rows a second for `relocations`, the median of the rounds:", works, works + calls_end);
+	print_table("Calls a second, rows a second for `relocations`, buckets a second for\n"
+		    "`places`, the median of the rounds:", works, works + calls_end);
 	print_table("The same by the number of intervals:", works + calls_end,
 		    works + work_count);
 	print_bytes();
+	print_single();
 	print_slower();
 	return 0;
 }

@@ -1,4 +1,4 @@
-/* The nine calls of the placement map in plain C: what the proved calls are measured
+/* The ten calls of the placement map in plain C: what the proved calls are measured
  * against. Same arguments, same replies, same refusals in the same order. What they do
  * with a table that has passed the check is in method.h.
  */
@@ -298,6 +298,97 @@ static void list_moves(const struct table *old, uint32_t bins, const uint32_t du
 	}
 }
 
+/* ---------------------------------------------------------- a list of buckets */
+
+/* 32: a bucket smaller than the one before it. As with a table, no branch on the data. */
+static inline bool falls(const uint32_t *buckets, size_t count)
+{
+	int32_t wrong = 0;
+
+	for (size_t n = 1; n < count; n++)
+		wrong |= -(buckets[n] < buckets[n - 1]);
+	return wrong != 0;
+}
+
+/* The interval of a bucket, from interval i on, which is not past it: eight at a time, and in
+ * the last eight by a count, without a branch on the data, since it can't be predicted. */
+static inline uint32_t interval_from(const struct table *t, uint32_t i, uint32_t bucket)
+{
+	uint32_t count = t->header.interval_count;
+
+	while (i + 8 < count && t->ends[i + 7] <= bucket)
+		i += 8;
+	if (i + 8 < count) {
+		uint32_t past = 0;
+
+		for (uint32_t j = 0; j < 7; j++)
+			past += t->ends[i + j] <= bucket;
+		return i + past;
+	}
+	while (t->ends[i] <= bucket)
+		i++;
+	return i;
+}
+
+static inline void put_place(uint32_t *restrict places, size_t n, uint32_t bin, uint32_t position)
+{
+	uint64_t place = pair(bin, position);
+
+	memcpy(places + 2 * n, &place, sizeof place);
+}
+
+/* Writes the places of the buckets from n on that lie before `end`, all in one interval: so
+ * many that they share a division. A rank is divided by the size of the block by taking the
+ * upper half of its product with 2^64 / size, rounded up: that is exact, since a rank times a
+ * size is below 2^64. Returns the number past them. */
+static inline size_t place_run(const uint32_t *buckets, size_t n, size_t count, uint32_t end,
+			       uint32_t first, uint32_t size, uint32_t adjustment,
+			       uint32_t *restrict places)
+{
+	uint64_t inverse = UINT64_MAX / size + 1;
+
+	if (size == 1) { /* its inverse does not fit */
+		for (; n < count && buckets[n] < end; n++)
+			put_place(places, n, first, buckets[n] - adjustment);
+		return n;
+	}
+	for (; n < count && buckets[n] < end; n++) {
+		uint32_t rank = buckets[n] - adjustment;
+		uint32_t position = (uint32_t)(((unsigned __int128)inverse * rank) >> 64);
+
+		put_place(places, n, first + rank - position * size, position);
+	}
+	return n;
+}
+
+/* Writes the places of buckets below B that don't fall: one walk of the intervals. */
+static inline void place_each(struct table t, const uint32_t *buckets, size_t count,
+			      uint32_t *restrict places)
+{
+	uint32_t i = 0, end = 0; /* the interval, and its end */
+	uint32_t first = 0, size = 1, adjustment = 0;
+
+	for (size_t n = 0; n < count;) {
+		uint32_t bucket = buckets[n];
+
+		if (end <= bucket) {
+			i = interval_from(&t, i, bucket);
+			end = t.ends[i];
+			first = first_bin(&t, t.blocks[i]);
+			size = t.tops[t.blocks[i]] - first;
+			adjustment = t.adjustments[i];
+			if (count - n > 8 && buckets[n + 8] < end) {
+				n = place_run(buckets, n, count, end, first, size, adjustment,
+					      places);
+				continue;
+			}
+		}
+		put_place(places, n, first + (bucket - adjustment) % size,
+			  (bucket - adjustment) / size);
+		n++;
+	}
+}
+
 /* ---------------------------------------------------------------- the calls */
 
 struct irr_table_reply
@@ -392,6 +483,31 @@ plain_place(struct irr_header header,
 	if (refusal != 0)
 		return place_reply(refusal, 0, 0);
 	return placed(&t, bucket);
+}
+
+struct irr_places_reply
+plain_places(struct irr_header header,
+	     const uint32_t *tops, size_t tops_length, const uint32_t *ends, size_t ends_length,
+	     const uint32_t *blocks, size_t blocks_length,
+	     const uint32_t *adjustments, size_t adjustments_length,
+	     const uint32_t *buckets, size_t buckets_length,
+	     uint32_t *places, size_t places_length)
+{
+	struct table t = {header, tops, ends, blocks, adjustments, {0, 0}};
+	uint32_t refusal;
+
+	if (places_length / 2 < buckets_length)
+		return (struct irr_places_reply){33};
+	refusal = check(&t, tops_length, ends_length, blocks_length, adjustments_length);
+	if (refusal != 0)
+		return (struct irr_places_reply){refusal};
+	if (falls(buckets, buckets_length))
+		return (struct irr_places_reply){32};
+	/* The last bucket is the largest. */
+	if (buckets_length > 0 && buckets[buckets_length - 1] >= header.buckets)
+		return (struct irr_places_reply){6};
+	place_each(t, buckets, buckets_length, places);
+	return (struct irr_places_reply){0};
 }
 
 struct irr_find_reply

@@ -1,4 +1,4 @@
-/* The nine calls by hand (irr.c), each declared like the proved call of its name. */
+/* The ten calls by hand (irr.c), each declared like the proved call of its name. */
 #ifndef BENCH_PLAIN_H
 #define BENCH_PLAIN_H
 
@@ -10,6 +10,7 @@ PLAIN(initial);
 PLAIN(expand);
 PLAIN(relocations);
 PLAIN(place);
+PLAIN(places);
 PLAIN(find);
 PLAIN(bin_size);
 PLAIN(room);

@@ -84,6 +84,21 @@ static void print_bins(const struct table *t, uint32_t bins)
     }
 }
 
+/* a trend screen: where its buckets are, asked for in one call; two of its curves share a bucket */
+static void print_screen(const struct table *t)
+{
+    static const uint32_t buckets[] = {3, 6, 8, 8, 13};
+    enum { SHOWN = sizeof buckets / sizeof *buckets };
+    uint32_t places[2 * SHOWN];
+    struct irr_places_reply reply =
+        irr_places(t->header, ARRAYS(t), buckets, SHOWN, places, 2 * SHOWN);
+    need("irr_places", reply.refusal);
+    printf("a screen of %u buckets\n", (unsigned)SHOWN);
+    for (size_t i = 0; i < SHOWN; i++)
+        printf("  bucket %2u: bin %u, position %u\n", (unsigned)buckets[i],
+               (unsigned)places[2 * i], (unsigned)places[2 * i + 1]);
+}
+
 /* leaves the program unless both tables place every bucket alike */
 static void need_same_places(const struct table *a, const struct table *b)
 {
@@ -124,5 +139,6 @@ int main(void)
 
     need_same_places(&two, &loaded);
     print_bins(&loaded, 5);
+    print_screen(&loaded);
     return EXIT_SUCCESS;
 }

@@ -33,7 +33,7 @@ extern "C" {
 
 /* The version of this header and its library; IRR_VERSION is one number, to compare in an #if. */
 #define IRR_VERSION_MAJOR 0
-#define IRR_VERSION_MINOR 1
+#define IRR_VERSION_MINOR 2
 #define IRR_VERSION_PATCH 0
 #define IRR_VERSION (10000 * IRR_VERSION_MAJOR + 100 * IRR_VERSION_MINOR + IRR_VERSION_PATCH)
 
@@ -59,6 +59,7 @@ enum irr_refusal {
     IRR_BUCKET_OUTSIDE = 6,  /* bucket not below B */
     IRR_PLACE_OUTSIDE = 7,   /* bin not below n, or position not below the bin's size */
     IRR_ORDER_OUTSIDE = 9,   /* first order number above the total, or expansions above 64 */
+    IRR_LIST_FALLS = 32,     /* in a list of buckets, one smaller than the one before it */
     /* a lent table or a file */
     IRR_WRONG_COUNT = 11,    /* B or a count outside its limits, an array shorter than its count,
                                 or a file of another length */
@@ -69,7 +70,8 @@ enum irr_refusal {
     IRR_WRONG_HOLDING = 15,  /* a block whose intervals hold another number than its due */
     IRR_WRONG_ADJUSTMENT = 16, /* other than the buckets of other blocks before the interval */
     /* lent room */
-    IRR_ROOM_SHORT = 21      /* below 65 tops or 2,081 of an interval array, or a file's length */
+    IRR_ROOM_SHORT = 21,     /* below 65 tops or 2,081 of an interval array, or a file's length */
+    IRR_RESULT_SHORT = 33    /* a result shorter than two numbers a bucket */
 };
 
 /* What travels with the four arrays of a table. */
@@ -95,6 +97,10 @@ struct irr_place_reply {
     uint32_t refusal;
     uint32_t bin;
     uint32_t position;
+};
+
+struct irr_places_reply {
+    uint32_t refusal;
 };
 
 struct irr_find_reply {
@@ -176,6 +182,21 @@ struct irr_place_reply irr_place(
     const uint32_t *blocks, size_t blocks_len,
     const uint32_t *adjustments, size_t adjustments_len,
     uint32_t bucket);
+
+/*
+ * The bins and positions of a list of buckets that does not fall: a bucket may stand in it twice,
+ * but not behind a larger one. An empty list is accepted.
+ * Refusals: 33, 11, 12, 13, 14, 15, 16, 32, 6; 32 and 6 each over the whole list. Writes to
+ * `places` two numbers a bucket, its bin and its position, in the order of the list.
+ */
+struct irr_places_reply irr_places(
+    struct irr_header header,
+    const uint32_t *tops, size_t tops_len,
+    const uint32_t *ends, size_t ends_len,
+    const uint32_t *blocks, size_t blocks_len,
+    const uint32_t *adjustments, size_t adjustments_len,
+    const uint32_t *buckets, size_t buckets_len,
+    uint32_t *places, size_t places_len);
 
 /*
  * The bucket at a position of a bin.

@@ -28,6 +28,8 @@ SIZE(irr_place_reply, 12);
 AT(irr_place_reply, refusal, 0);
 AT(irr_place_reply, bin, 4);
 AT(irr_place_reply, position, 8);
+SIZE(irr_places_reply, 4);
+AT(irr_places_reply, refusal, 0);
 SIZE(irr_find_reply, 8);
 AT(irr_find_reply, refusal, 0);
 AT(irr_find_reply, bucket, 4);
@@ -51,7 +53,8 @@ _Static_assert(IRR_OK == 0 && IRR_SIZE_OUTSIDE == 1 && IRR_BINS_ABOVE == 2 &&
                    IRR_BUCKET_OUTSIDE == 6 && IRR_PLACE_OUTSIDE == 7 && IRR_INTERVALS_FULL == 8 &&
                    IRR_ORDER_OUTSIDE == 9 && IRR_WRONG_COUNT == 11 && IRR_WRONG_TOP == 12 &&
                    IRR_WRONG_END == 13 && IRR_WRONG_BLOCK == 14 && IRR_WRONG_HOLDING == 15 &&
-                   IRR_WRONG_ADJUSTMENT == 16 && IRR_ROOM_SHORT == 21,
+                   IRR_WRONG_ADJUSTMENT == 16 && IRR_ROOM_SHORT == 21 && IRR_LIST_FALLS == 32 &&
+                   IRR_RESULT_SHORT == 33,
                "refusal numbers");
 
 struct table {
@@ -90,6 +93,7 @@ static void same(const char *what, const void *got, size_t n, const uint32_t *wa
 #define TABLE(r) (const uint32_t[]){(r).refusal, (r).moved, HEADER((r).header)}
 #define LIST(r) (const uint32_t[]){(r).refusal, (r).written, (r).total}
 #define PLACE(r) (const uint32_t[]){(r).refusal, (r).bin, (r).position}
+#define PLACES(r) (const uint32_t[]){(r).refusal}
 #define FIND(r) (const uint32_t[]){(r).refusal, (r).bucket}
 #define BIN_SIZE(r) (const uint32_t[]){(r).refusal, (r).buckets}
 #define ROOM(r) (const uint32_t[]){(r).refusal, (r).intervals}
@@ -119,6 +123,11 @@ static void check_replies(void)
     same("ends", b.ends, WANT(7, 10));
     same("blocks", b.blocks, WANT(0, 1));
     same("adjustments", b.adjustments, WANT(0, 7));
+    uint32_t numbers[9] = {0};
+    struct irr_places_reply places =
+        irr_places(b.header, ARRAYS(&b), (const uint32_t[]){3, 6, 8, 8}, 4, numbers, 9);
+    same("irr_places", PLACES(places), WANT(0));
+    same("places", numbers, WANT(1, 1, 0, 3, 2, 1, 2, 1, 0));
     struct irr_find_reply find = irr_find(b.header, ARRAYS(&b), 2, 1);
     same("irr_find", FIND(find), WANT(0, 8));
     struct irr_bin_size_reply size = irr_bin_size(b.header, ARRAYS(&b), 0);
@@ -206,6 +215,8 @@ static void check_empty(uint32_t *p)
     same("irr_relocations, empty", LIST(list), WANT(11, 0, 0));
     struct irr_place_reply place = irr_place(header, NONE(p), 7);
     same("irr_place, empty", PLACE(place), WANT(11, 0, 0));
+    struct irr_places_reply places = irr_places(header, NONE(p), p, 0, p, 0);
+    same("irr_places, empty", PLACES(places), WANT(11));
     struct irr_find_reply find = irr_find(header, NONE(p), 1, 1);
     same("irr_find, empty", FIND(find), WANT(11, 0));
     struct irr_bin_size_reply size = irr_bin_size(header, NONE(p), 1);
@@ -219,6 +230,10 @@ static void check_empty(uint32_t *p)
     table = irr_initial(10, 2, ARRAYS(&a));
     list = irr_relocations(table.header, ARRAYS(&a), 10, 3, 0, p, 0);
     same("irr_relocations, no rows", LIST(list), WANT(0, 0, 3));
+    places = irr_places(table.header, ARRAYS(&a), p, 0, p, 0);
+    same("irr_places, no buckets", PLACES(places), WANT(0));
+    places = irr_places(table.header, ARRAYS(&a), (const uint32_t[]){7}, 1, p, 0);
+    same("irr_places, no room", PLACES(places), WANT(33));
     save = irr_save(table.header, ARRAYS(&a), bytes, 0);
     same("irr_save, no room", SAVE(save), WANT(21, 0));
 }

@@ -12,8 +12,13 @@
     (t)->header, (t)->tops, (t)->tops_len, (t)->ends, (t)->intervals_len, (t)->blocks, \
         (t)->intervals_len, (t)->adjustments, (t)->intervals_len
 
+/* entries behind the places of a list, which no call may write, and what they hold */
+enum { PAST = 3, KEPT = 0xeeee };
+
 static struct directory before, after;
-static uint64_t maps, places, growths, rows_seen;
+static uint64_t maps, places, lists, growths, rows_seen;
+static uint32_t listed[2 * DIRECTORY_BUCKETS], numbers[4 * DIRECTORY_BUCKETS + PAST];
+static struct irr_place_reply single[DIRECTORY_BUCKETS];
 
 static void read_directory(struct directory *d, const struct table *t)
 {
@@ -41,7 +46,7 @@ static void check_sizes(const struct directory *d, const struct table *t)
     }
 }
 
-/* place and find, of every bucket */
+/* place and find, of every bucket; the single placings are kept */
 static void check_places(const struct directory *d, const struct table *t)
 {
     for (int x = 0; x < d->buckets; x++) {
@@ -52,8 +57,104 @@ static void check_places(const struct directory *d, const struct table *t)
             fault("irr_place: bucket, bin, position", (uint32_t)x, place.bin, place.position);
         if (find.refusal != 0 || find.bucket != (uint32_t)x)
             fault("irr_find: bin, position, bucket", y, p, find.bucket);
+        single[x] = place;
     }
     places += (uint64_t)d->buckets;
+}
+
+/* asks for the places of the first n that are listed, with so many numbers lent for them; the
+ * numbers from `written` on must be kept */
+static void ask_list(const struct table *t, uint32_t n, uint32_t lent, uint32_t refusal,
+                     uint32_t written)
+{
+    for (uint32_t i = 0; i < 2 * n + PAST; i++)
+        numbers[i] = KEPT;
+    struct irr_places_reply r = irr_places(TABLE(t), listed, n, numbers, lent);
+    if (r.refusal != refusal)
+        fault("irr_places: buckets, refusal, right one", n, r.refusal, refusal);
+    for (uint32_t i = written; i < 2 * n + PAST; i++)
+        if (numbers[i] != KEPT)
+            fault("irr_places: buckets, number written, its place", n, numbers[i], i);
+    lists++;
+}
+
+/* a list that is accepted, against the directory and the single placings */
+static void check_list(const struct directory *d, const struct table *t, uint32_t n)
+{
+    ask_list(t, n, 2 * n + below(PAST + 1), 0, 2 * n);
+    for (uint32_t i = 0; i < n; i++) {
+        uint32_t x = listed[i], y = numbers[2 * i], p = numbers[2 * i + 1];
+        if (y != (uint32_t)d->bin[x] || p != (uint32_t)d->position[x])
+            fault("irr_places, directory: bucket, bin, position", x, y, p);
+        if (y != single[x].bin || p != single[x].position)
+            fault("irr_places, irr_place: bucket, bin, position", x, y, p);
+    }
+}
+
+/* every bucket that lies `step` behind the one before it, so many times each */
+static uint32_t list_steps(uint32_t b, uint32_t step, uint32_t times)
+{
+    uint32_t n = 0;
+    for (uint32_t x = 0; x < b; x += step)
+        for (uint32_t i = 0; i < times; i++)
+            listed[n++] = x;
+    return n;
+}
+
+/* the first or the last bucket of some of the intervals */
+static uint32_t list_intervals(const struct table *t, uint32_t skipped)
+{
+    uint32_t n = 0;
+    for (uint32_t i = below(skipped + 1); i < t->header.interval_count; i += 1 + below(skipped + 1))
+        listed[n++] = once_in(2) || i == 0 ? t->ends[i] - 1 : t->ends[i - 1];
+    return n;
+}
+
+static void swap_listed(uint32_t i)
+{
+    uint32_t x = listed[i];
+    listed[i] = listed[i + 1];
+    listed[i + 1] = x;
+}
+
+/* the first n that are listed, each above the one before it, with one pair that falls: the first,
+ * any, the last */
+static void check_falls(const struct table *t, uint32_t n)
+{
+    uint32_t any = below(n - 1);
+    const uint32_t pairs[3] = {0, any, n - 2};
+    for (int i = 0; i < 3 && n > 1; i++) {
+        swap_listed(pairs[i]);
+        ask_list(t, n, 2 * n, IRR_LIST_FALLS, 0);
+        swap_listed(pairs[i]);
+    }
+}
+
+/* the list of all buckets, with what is refused: a result too short, a pair that falls by one, the
+ * last bucket not below B, and a fall before or behind that bucket */
+static void check_wrong_lists(const struct table *t)
+{
+    uint32_t b = t->header.buckets, n = list_steps(b, 1, 1);
+    ask_list(t, n, 2 * n - 1, IRR_RESULT_SHORT, 0);
+    check_falls(t, n);
+    listed[n - 1] = b;
+    ask_list(t, n, 2 * n, IRR_BUCKET_OUTSIDE, 0);
+    check_falls(t, n);
+}
+
+/* lists of buckets: none, one, all, all twice, some, and some intervals' */
+static void check_lists(const struct directory *d, const struct table *t)
+{
+    uint32_t b = t->header.buckets, step = 2 + below(b), times = 1 + below(2);
+    check_list(d, t, 0);
+    listed[0] = below(b);
+    check_list(d, t, 1);
+    check_list(d, t, list_steps(b, 1, 1));
+    check_list(d, t, list_steps(b, 1, 2));
+    check_list(d, t, list_steps(b, step, times));
+    check_list(d, t, list_intervals(t, 0));
+    check_list(d, t, list_intervals(t, 4));
+    check_wrong_lists(t);
 }
 
 void check_map(const struct table *t)
@@ -63,6 +164,7 @@ void check_map(const struct table *t)
     read_directory(&before, t);
     check_sizes(&before, t);
     check_places(&before, t);
+    check_lists(&before, t);
     maps++;
 }
 
@@ -163,14 +265,15 @@ void check_growth(const struct table *old, const struct table *grown, uint32_t m
     check_rows(old, grown, moved);
     check_sizes(&after, grown);
     check_places(&after, grown);
+    check_lists(&after, grown);
     growths++;
 }
 
 void buckets_summary(void)
 {
     printf("directory: %" PRIu64 " growths with %" PRIu64 " rows, %" PRIu64 " other maps, %" PRIu64
-           " buckets placed and found\n",
-           growths, rows_seen, maps, places);
+           " buckets placed and found, %" PRIu64 " lists of buckets\n",
+           growths, rows_seen, maps, places, lists);
     if (growths == 0 || rows_seen == 0 || maps == 0)
         fault("the directory was never compared", (uint32_t)growths, (uint32_t)rows_seen, 0);
 }

@@ -9,7 +9,7 @@
  * the map, all of it is compared, bucket by bucket. */
 void check_growth(const struct table *old, const struct table *grown, uint32_t moved);
 
-/* A sound table: every bucket, bin and position. */
+/* A sound table: every bucket, bin and position, and lists of buckets. */
 void check_map(const struct table *t);
 
 /* prints what was compared */

@@ -12,11 +12,12 @@
 #include "random.h"
 #include "reference.h"
 
-enum { REFUSALS = 22, SHOWN = 10 };
+enum { REFUSALS = 34, SHOWN = 10 };
 
-static const char *const names[CALLS] = {"irr_initial", "irr_expand", "irr_relocations",
-                                         "irr_place",   "irr_find",   "irr_bin_size",
-                                         "irr_room",    "irr_save",   "irr_load"};
+static const char *const names[CALLS] = {"irr_initial",  "irr_expand", "irr_relocations",
+                                         "irr_place",    "irr_places", "irr_find",
+                                         "irr_bin_size", "irr_room",   "irr_save",
+                                         "irr_load"};
 
 /* the refusals that each call can answer; 0 is an accepted call */
 static const signed char possible[CALLS][REFUSALS] = {
@@ -24,6 +25,7 @@ static const signed char possible[CALLS][REFUSALS] = {
     {0, 21, 11, 12, 13, 14, 15, 16, 1, 2, 3, 4, 5, 8, -1},
     {0, 11, 12, 13, 14, 15, 16, 1, 2, 3, 4, 5, 9, -1},
     {0, 11, 12, 13, 14, 15, 16, 6, -1},
+    {0, 33, 11, 12, 13, 14, 15, 16, 32, 6, -1},
     {0, 11, 12, 13, 14, 15, 16, 7, -1},
     {0, 11, 12, 13, 14, 15, 16, 7, -1},
     {0, 9, -1},
@@ -31,7 +33,7 @@ static const signed char possible[CALLS][REFUSALS] = {
     {0, 21, 11, 12, 13, 14, 15, -1},
 };
 
-static struct lent in[4], out[4], more;
+static struct lent in[4], out[4], list, more;
 static uint64_t seed, compared[CALLS], answered[CALLS][REFUSALS];
 static uint32_t most_blocks, most_intervals;
 static int fault_count, lend_enough;
@@ -63,6 +65,7 @@ void calls_open(uint64_t with_seed)
         lent_open(&in[i]);
         lent_open(&out[i]);
     }
+    lent_open(&list);
     lent_open(&more);
 }
 
@@ -162,7 +165,7 @@ static void take_table(struct irr_header header, struct table *to)
 
 /* JUDGING */
 
-static const char *difference(int table, int room, int extra)
+static const char *difference(int table, int room, int buckets, int extra)
 {
     static const char *const inside[4] = {"tops read", "ends read", "blocks read",
                                           "adjustments read"};
@@ -174,7 +177,9 @@ static const char *difference(int table, int room, int extra)
         if (room && !lent_same(&out[i]))
             return outside[i];
     }
-    return extra && !lent_same(&more) ? "rows or bytes" : NULL;
+    if (buckets && !lent_same(&list))
+        return "buckets read";
+    return extra && !lent_same(&more) ? "rows, places or bytes" : NULL;
 }
 
 static void show(enum call call, const struct table *t, const uint32_t *asked, const uint32_t *got,
@@ -204,8 +209,8 @@ static uint32_t judge(enum call call, const struct table *t, const uint32_t *ask
 {
     uint32_t got[5], want[5];
     int room = call == INITIAL || call == EXPAND || call == LOAD;
-    int extra = call == RELOCATIONS || call == SAVE || call == LOAD;
-    const char *memory = difference(t != NULL, room, extra);
+    int extra = call == RELOCATIONS || call == PLACES || call == SAVE || call == LOAD;
+    const char *memory = difference(t != NULL, room, call == PLACES, extra);
     memcpy(got, reply, size);
     memcpy(want, expected, size);
     compared[call]++;
@@ -218,7 +223,7 @@ static uint32_t judge(enum call call, const struct table *t, const uint32_t *ask
 #define JUDGE(call, t, a, b, c) \
     judge(call, t, (const uint32_t[]){a, b, c}, &got, &want, sizeof got)
 
-/* THE NINE CALLS */
+/* THE TEN CALLS */
 
 uint32_t compare_initial(uint32_t buckets, uint32_t bins, struct table *to)
 {
@@ -268,6 +273,22 @@ uint32_t compare_place(const struct table *t, uint32_t bucket)
     struct irr_place_reply got = irr_place(t->header, FOUR(in, ARCHIVE), bucket);
     struct irr_place_reply want = ref_place(t->header, FOUR(in, REFERENCE), bucket);
     return JUDGE(PLACE, t, bucket, 0, 0);
+}
+
+uint32_t compare_places(const struct table *t, const uint32_t *buckets, size_t buckets_len,
+                        size_t places_len)
+{
+    lend_table(t);
+    lent_junk(&list, 4 * buckets_len);
+    lent_put(&list, buckets, 4 * buckets_len);
+    lent_junk(&more, 4 * places_len);
+    current = PLACES;
+    struct irr_places_reply got = irr_places(t->header, FOUR(in, ARCHIVE), WORDS(&list, ARCHIVE),
+                                             WORDS(&more, ARCHIVE));
+    struct irr_places_reply want = ref_places(t->header, FOUR(in, REFERENCE),
+                                              WORDS(&list, REFERENCE), WORDS(&more, REFERENCE));
+    return JUDGE(PLACES, t, (uint32_t)buckets_len, (uint32_t)places_len,
+                 buckets_len == 0 ? 0 : buckets[buckets_len - 1]);
 }
 
 uint32_t compare_find(const struct table *t, uint32_t bin, uint32_t position)

@@ -7,7 +7,7 @@
 
 #include "tables.h"
 
-enum call { INITIAL, EXPAND, RELOCATIONS, PLACE, FIND, BIN_SIZE, ROOM, SAVE, LOAD, CALLS };
+enum call { INITIAL, EXPAND, RELOCATIONS, PLACE, PLACES, FIND, BIN_SIZE, ROOM, SAVE, LOAD, CALLS };
 
 void calls_open(uint64_t seed);
 
@@ -28,6 +28,8 @@ uint32_t compare_expand(const struct table *t, uint32_t buckets, uint32_t bins, 
 uint32_t compare_relocations(const struct table *t, uint32_t buckets, uint32_t bins,
                              uint32_t first, size_t rows_len);
 uint32_t compare_place(const struct table *t, uint32_t bucket);
+uint32_t compare_places(const struct table *t, const uint32_t *buckets, size_t buckets_len,
+                        size_t places_len);
 uint32_t compare_find(const struct table *t, uint32_t bin, uint32_t position);
 uint32_t compare_bin_size(const struct table *t, uint32_t bin);
 uint32_t compare_room(uint32_t expansions);

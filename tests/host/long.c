@@ -10,7 +10,7 @@
 #include "irr.h"
 
 static const size_t huge = (size_t)1 << 32;
-enum { OPEN = 1 << 16, ARRAYS = 5, SKIPPED = 77 };
+enum { OPEN = 1 << 16, ARRAYS = 6, SKIPPED = 77 };
 
 static unsigned char *memory[ARRAYS];
 static int faults;
@@ -41,6 +41,33 @@ static void want(const char *what, uint32_t got, uint32_t expected)
     printf("FAULT %s: %" PRIu32 ", not %" PRIu32 "\n", what, got, expected);
 }
 
+/* a list and its result, of the lengths given */
+static uint32_t places(struct irr_header h, size_t buckets_len, size_t places_len)
+{
+    return irr_places(h, FOUR(huge), array(4), buckets_len, array(5), places_len).refusal;
+}
+
+/* lists of more buckets than two numbers each fit into the result, or into a size_t; 33 is tested
+ * first, so no bucket is read */
+static void check_lists(struct irr_header h)
+{
+    want("irr_places of 2^32 buckets", places(h, huge, huge), IRR_RESULT_SHORT);
+    want("irr_places of 2^32 + 1 buckets into 2 numbers", places(h, huge + 1, 2),
+         IRR_RESULT_SHORT);
+    want("irr_places of 2^31 buckets, a number short", places(h, huge / 2, huge - 1),
+         IRR_RESULT_SHORT);
+    want("irr_places of half as many as a size_t counts", places(h, SIZE_MAX / 2 + 1, huge),
+         IRR_RESULT_SHORT);
+    want("the same and one more, into 2 numbers", places(h, SIZE_MAX / 2 + 2, 2),
+         IRR_RESULT_SHORT);
+    want("irr_places of as many as a size_t counts", places(h, SIZE_MAX, SIZE_MAX),
+         IRR_RESULT_SHORT);
+    array(4)[0] = 7;
+    want("irr_places of 1 bucket into 2^32 numbers", places(h, 1, huge), 0);
+    want("its bin", array(5)[0], 1);
+    want("its position", array(5)[1], 3);
+}
+
 int main(void)
 {
     if (!reserve()) {
@@ -57,6 +84,7 @@ int main(void)
     want("last row, bucket", array(4)[10], 9);
     want("irr_relocations into 4 numbers more than 2^32, written",
          irr_relocations(h, FOUR(huge + 1), 10, 3, 2, array(4), huge + 4).written, 1);
+    check_lists(h);
     struct irr_save_reply saved = irr_save(h, FOUR(huge), memory[4], huge);
     want("irr_save, length", saved.length, 24);
     want("irr_load of 2^32 bytes too many", irr_load(memory[4], huge + 24, FOUR(huge)).refusal,

@@ -1,4 +1,4 @@
-/* The nine calls written from document 01, simple rather than fast; arithmetic is in int64_t. */
+/* The ten calls written from document 01, simple rather than fast; arithmetic is in int64_t. */
 #include "reference.h"
 
 enum {
@@ -443,7 +443,7 @@ static void write_map(const struct map *m, uint32_t *tops, uint32_t *ends, uint3
     }
 }
 
-/* THE NINE CALLS */
+/* THE TEN CALLS */
 
 static struct map before, after;
 
@@ -522,6 +522,45 @@ struct irr_place_reply ref_place(struct irr_header header, REF_TABLE, uint32_t b
         return reply;
     read_map(&v, &before);
     placed(&before, span_of(&before, bucket), bucket, &reply.bin, &reply.position);
+    return reply;
+}
+
+static int list_falls(const uint32_t *buckets, size_t n)
+{
+    for (size_t i = 1; i < n; i++)
+        if (buckets[i] < buckets[i - 1])
+            return 1;
+    return 0;
+}
+
+static int bucket_outside(const struct view *v, const uint32_t *buckets, size_t n)
+{
+    for (size_t i = 0; i < n; i++)
+        if (buckets[i] >= v->buckets)
+            return 1;
+    return 0;
+}
+
+/* each bucket placed by itself */
+struct irr_places_reply ref_places(struct irr_header header, REF_TABLE, const uint32_t *buckets,
+                                   size_t buckets_len, uint32_t *places, size_t places_len)
+{
+    struct irr_places_reply reply = {0};
+    struct view v = VIEW;
+    if (places_len < buckets_len || places_len - buckets_len < buckets_len)
+        reply.refusal = 33;
+    else
+        reply.refusal = table_refusal(&v);
+    if (reply.refusal == 0 && list_falls(buckets, buckets_len))
+        reply.refusal = 32;
+    if (reply.refusal == 0 && bucket_outside(&v, buckets, buckets_len))
+        reply.refusal = 6;
+    if (reply.refusal != 0)
+        return reply;
+    read_map(&v, &before);
+    for (size_t i = 0; i < buckets_len; i++)
+        placed(&before, span_of(&before, buckets[i]), buckets[i], &places[2 * i],
+               &places[2 * i + 1]);
     return reply;
 }
 

@@ -1,4 +1,4 @@
-/* The nine calls written from document 01, plainly: each ref_ call answers what irr_ should. */
+/* The ten calls written from document 01, plainly: each ref_ call answers what irr_ should. */
 #ifndef REFERENCE_H
 #define REFERENCE_H
 
@@ -21,6 +21,8 @@ struct irr_relocations_reply ref_relocations(struct irr_header header, REF_TABLE
                                              uint32_t bins, uint32_t first, uint32_t *rows,
                                              size_t rows_len);
 struct irr_place_reply ref_place(struct irr_header header, REF_TABLE, uint32_t bucket);
+struct irr_places_reply ref_places(struct irr_header header, REF_TABLE, const uint32_t *buckets,
+                                   size_t buckets_len, uint32_t *places, size_t places_len);
 struct irr_find_reply ref_find(struct irr_header header, REF_TABLE, uint32_t bin,
                                uint32_t position);
 struct irr_bin_size_reply ref_bin_size(struct irr_header header, REF_TABLE, uint32_t bin);

@@ -7,6 +7,8 @@
 #include "random.h"
 #include "reference.h"
 
+enum { MOST_LISTED = 700 };
+
 static struct table spare;
 
 static uint32_t one_of(const uint32_t *numbers, uint32_t n)
@@ -110,6 +112,56 @@ static void try_place(const struct table *t)
     compare_place(t, ONE_OF(0, b - 1, b, b + 1, UINT32_MAX, end, end - 1, end + 1, any, any, any));
 }
 
+/* A list that does not fall, of buckets of a sound table: one again and again, all from some on,
+ * with repeats, or with gaps up to those that skip many intervals. Answers its length. */
+static uint32_t list_buckets(const struct table *t, uint32_t *buckets)
+{
+    uint32_t b = t->header.buckets, few = below(20), many = below(MOST_LISTED + 1);
+    uint32_t n = ONE_OF(0, 1, 2, few, few, many), x = once_in(2) ? 0 : below(b);
+    uint32_t least = below(2), narrow = 1 + below(3), wide = 1 + (b - x) / (n + 1);
+    uint32_t gaps = ONE_OF(1, narrow, wide, 2 * wide);
+    for (uint32_t i = 0; i < n; i++) {
+        buckets[i] = x;
+        x += least + below(gaps);
+        if (x >= b)
+            x = b - 1;
+    }
+    return n;
+}
+
+/* harms a list of at least two buckets: it falls by one, or a bucket of it is not below b */
+static void harm_list(uint32_t *buckets, uint32_t n, uint32_t b)
+{
+    uint32_t any = below(n - 1), before = ONE_OF(0, any, n - 2);
+    switch (below(4)) {
+    case 0:
+        buckets[before] = buckets[before + 1] + 1;
+        break;
+    case 1:
+        buckets[before] = ONE_OF(b, UINT32_MAX);
+        break;
+    case 2:
+        buckets[n - 1] = ONE_OF(b, b + 1, UINT32_MAX);
+        break;
+    default:
+        for (uint32_t i = before + 1; i < n; i++)
+            buckets[i] = b + i;
+    }
+}
+
+static void try_places(const struct table *t)
+{
+    static uint32_t buckets[MOST_LISTED];
+    uint32_t b = t->header.buckets, n = list_buckets(t, buckets);
+    uint32_t exact = 2 * n, less = below(exact), last = ONE_OF(b - 1, b, UINT32_MAX);
+    for (uint32_t harms = n > 1 ? below(3) : 0; harms > 0; harms--)
+        harm_list(buckets, n, b);
+    if (n == 1 && once_in(4))
+        buckets[0] = last;
+    compare_places(t, buckets, n,
+                   ONE_OF(exact, exact, exact, exact, exact + 1, exact + 6, exact - (n > 0), less));
+}
+
 static void try_find(const struct table *t)
 {
     uint32_t n = table_bins(t), size = n == 0 ? 0 : t->header.buckets / n;
@@ -134,14 +186,15 @@ static void try_save(const struct table *t)
 void round_of_calls(const struct table *t, int times)
 {
     for (int i = 0; i < times; i++) {
-        switch (below(8)) {
+        switch (below(9)) {
         case 0: try_expand(t); break;
         case 1: try_expand(t); break;
         case 2: try_relocations(t); break;
         case 3: try_relocations(t); break;
         case 4: try_place(t); break;
-        case 5: try_find(t); break;
-        case 6: try_bin_size(t); break;
+        case 5: try_places(t); break;
+        case 6: try_find(t); break;
+        case 7: try_bin_size(t); break;
         default: try_save(t);
         }
     }

@@ -20,9 +20,9 @@ header() {
     $1 ${CPPFLAGS:-} "-std=$3" -fsyntax-only -pedantic -Wall -Wextra -Werror -x "$2" include/irr.h
 }
 
-# the archive has the nine calls of the header, and no other symbol that a program could meet
+# the archive has the ten calls of the header, and no other symbol that a program could meet
 symbols() {
-    for call in bin_size expand find initial load place relocations room save; do
+    for call in bin_size expand find initial load place places relocations room save; do
         echo "T irr_$call"
     done > "$OUT/calls"
     nm -g --defined-only "$ARCHIVE" > "$OUT/symbols" || return 1

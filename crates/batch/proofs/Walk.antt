@@ -22,9 +22,11 @@ use Rattle.model.proofs.Rows.{lent-place}
 use Rattle.model.proofs.Rules.{before-next}
 use Rattle.lookup.specs.Search.{Among, Ends}
 use Rattle.lookup.proofs.Searches.{adjustment-below}
-use Rattle.table.specs.Placing.{placingAt, Places}
+use Rattle.reciprocal.specs.Divides.{Divides}
+use Rattle.reciprocal.specs.declared.Reciprocal.{Reciprocal}
+use Rattle.table.specs.Placing.{placingAt}
 use Rattle.table.specs.declared.Placing.{Placing}
-use Rattle.batch.specs.Slots.{slotPair, slotPairs, Placed}
+use Rattle.batch.specs.Slots.{slotPair, slotPairs, Placeable, Placed, Stops}
 
 -- at interval `interval` and bucket number i: the places of the buckets before it are written, and it is not before that interval
 pub record Walking (h : Header) (a : Arrays) (xs : List ℕ) (interval i : ℕ) (old out : List ℕ) : Type 0 where
@@ -66,35 +68,40 @@ module _
     pub found-within : j < h .«interval_count»
     found-within = omega (arith, m .within)
 
-    pub found-places
-        : (p : Placing) → p ≡ placingAt a j → p .first + p .bins < 2 ^ 32
-        → (k : ℕ) → i ≤ k → k < length xs → Places p (getD xs k 0) × (getD xs k 0 < 2 ^ 30)
-    found-places p e fits k b c =
-        let some = sound .topsRise _ (sound .blocksBelow j found-within) in (
-          record {
-            some = omega (arith, ap (λ p. p .bins) e, some);
-            fits = fits;
-            ranked =
-                omega (
-                  arith,
-                  ap (λ p. p .adjustment) e,
-                  adjustment-below h a sound j found-within,
-                  m .from,
-                  falls-not xs (asked .0) i k b c,
-                );
-          },
-          omega (arith, asked .1 k c, sound .bucketLimit),
-        )
+    pub found-placeable
+        : {p : Placing} {by : Reciprocal} {out : List ℕ} → p ≡ placingAt a j → p .first + p .bins < 2 ^ 32 → Divides by (p .bins)
+        → 2 * length xs ≤ length out → Placeable p by xs i out
+    found-placeable e fits divides room =
+        record {
+          rise = asked .0;
+          places =
+              λ k b c.
+              record {
+                some = omega (arith, ap (λ p. p .bins) e, sound .topsRise _ (sound .blocksBelow j found-within));
+                fits = fits;
+                ranked =
+                    omega (
+                      arith,
+                      ap (λ p. p .adjustment) e,
+                      adjustment-below h a sound j found-within,
+                      m .from,
+                      falls-not xs (asked .0) i k b c,
+                    );
+              };
+          small = λ k c. omega (arith, asked .1 k c, sound .bucketLimit);
+          divides = divides;
+          room = room;
+        }
 
     module _ {p : Placing} {r : ℕ} {out out′ : List ℕ} (e : p ≡ placingAt a j) (w : Placed p (getD (a .ends) j 0) xs i r out out′) where
       -- at least that bucket is placed
-      pub found-more : i < r
-      found-more =
+      pub found-more : Stops (getD (a .ends) j 0) xs r → i < r
+      found-more stops =
           ⊎-elim
           (λ k. k)
           (λ k.
           let same : r ≡ i = omega (arith, w .on, k) in
-          let stop : getD (a .ends) j 0 ≤ getD xs i 0 = rw same at (w .stop (omega (arith, same, l))) in
+          let stop : getD (a .ends) j 0 ≤ getD xs i 0 = rw same at (stops (omega (arith, same, l))) in
           absurd (omega (arith, stop, m .to, before-next (a .ends) j)))
           (below-or i r)
 

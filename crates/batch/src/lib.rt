@@ -1,8 +1,7 @@
 // The places of a list of buckets in a sound table: one walk of its intervals.
-ghost use Prim.Native.Nat.{ℕ, _+_, _-_, _*_, _^_, _<_, _≤_};
+ghost use Prim.Native.Nat.{ℕ, _+_, _-_, _*_, _<_, _≤_};
 ghost use mathlib.Core.Path.{_≡_};
 ghost use mathlib.Core.Bool.{false};
-ghost use mathlib.Core.List.{[], _∷_};
 ghost use lib.ListN.{length, getD};
 ghost use lib.Seq.{sets};
 ghost use Rattle.model.specs.Lent.{LentSound, tableGiven};
@@ -10,15 +9,12 @@ ghost use Rattle.model.specs.Table.{over};
 ghost use Rattle.model.specs.Place.{places};
 ghost use Rattle.model.specs.Refusal.{first, falls as fallsIn};
 ghost use Rattle.model.specs.Calls.{answer, placesTests};
-ghost use Rattle.reciprocal.specs.Divides.{Divides};
-ghost use Rattle.table.specs.Placing.{Places};
 ghost use Rattle.lookup.specs.Search.{Among, Ends};
-ghost use Rattle.batch.specs.Slots.{Placed};
+ghost use Rattle.batch.specs.Slots.{slotPair, Placeable, Placed, Stops};
 use model::table::Header;
 use reciprocal::Reciprocal;
 use reciprocal::reciprocal_of;
 use table::Placing;
-use table::Slot;
 use table::placing_of;
 use table::slot_by;
 
@@ -71,16 +67,71 @@ fn interval_from(ends: &[u32], k: usize, from: usize, bucket: u32) -> usize
     i + count_past(ends, i, k - i - 1, bucket)
 }
 
-// Writes a place, from entry `at` on.
-fn write_slot(out: &mut [u32], at: usize, slot: Slot)
-    requires { ⌜ at + 2 ≤ length (now out) ⌝ }
-    ensures { λ _. ⌜ now (out .exit) ≡ sets (now (out .entry)) at (slot .bin ∷ slot .position ∷ []) ⌝ }
+// Writes the place of bucket number i.
+fn write_bucket(placing: Placing, by: Reciprocal, buckets: &[u32], i: usize, out: &mut [u32])
+    requires { ⌜ Placeable placing by (now buckets) i (now out) × (i < length (now buckets)) ⌝ }
+    ensures { λ _. ⌜ now (out .exit) ≡ sets (now (out .entry)) (2 * i) (slotPair placing (getD (now (buckets .entry)) i 0)) ⌝ }
 {
-    out[at] = slot.bin;
-    out[at + 1] = slot.position;
+    let slot = slot_by(placing, by, buckets[i]);
+    out[2 * i] = slot.bin;
+    out[2 * i + 1] = slot.position;
 }
 
-// Writes the places of the buckets from number `from` on that are below `end`. Answers the number of the first that is not.
+// Writes the places of the buckets from number `from` on, four at a time, as long as four are below `end`. Answers the number of
+// the first that is left.
+fn write_fours(
+    placing: Placing,
+    by: Reciprocal,
+    end: u32,
+    buckets: &[u32],
+    from: usize,
+    out: &mut [u32],
+) -> usize
+    requires { ⌜ Placeable placing by (now buckets) from (now out) × (from ≤ length (now buckets)) ⌝ }
+    ensures { λ r. ⌜ Placed placing end (now (buckets .entry)) from r (now (out .entry)) (now (out .exit)) ⌝ }
+{
+    let mut i = from;
+    while i + 3 < buckets.len() {
+        if end <= buckets[i + 3] {
+            return i;
+        }
+        write_bucket(placing, by, buckets, i, out);
+        write_bucket(placing, by, buckets, i + 1, out);
+        write_bucket(placing, by, buckets, i + 2, out);
+        write_bucket(placing, by, buckets, i + 3, out);
+        i += 4;
+    }
+    i
+}
+
+// The same one at a time, as long as one is below `end`.
+fn write_ones(
+    placing: Placing,
+    by: Reciprocal,
+    end: u32,
+    buckets: &[u32],
+    from: usize,
+    out: &mut [u32],
+) -> usize
+    requires { ⌜ Placeable placing by (now buckets) from (now out) × (from ≤ length (now buckets)) ⌝ }
+    ensures { λ r.
+        ⌜
+        Placed placing end (now (buckets .entry)) from r (now (out .entry)) (now (out .exit))
+        × Stops end (now (buckets .entry)) r
+        ⌝ }
+{
+    let mut i = from;
+    while i < buckets.len() {
+        if end <= buckets[i] {
+            return i;
+        }
+        write_bucket(placing, by, buckets, i, out);
+        i += 1;
+    }
+    i
+}
+
+// Both: the places of all buckets from number `from` on that are below `end`.
 fn write_interval(
     placing: Placing,
     by: Reciprocal,
@@ -89,20 +140,15 @@ fn write_interval(
     from: usize,
     out: &mut [u32],
 ) -> usize
-    requires { ⌜ ((k : ℕ) → from ≤ k → k < length (now buckets) → Places placing (getD (now buckets) k 0) × (getD (now buckets) k 0 < 2 ^ 30)) ⌝ }
-    requires { ⌜ (from ≤ length (now buckets)) × (2 * length (now buckets) ≤ length (now out)) × Divides by (placing .bins) ⌝ }
-    ensures { λ r. ⌜ Placed placing end (now (buckets .entry)) from r (now (out .entry)) (now (out .exit)) ⌝ }
+    requires { ⌜ Placeable placing by (now buckets) from (now out) × (from ≤ length (now buckets)) ⌝ }
+    ensures { λ r.
+        ⌜
+        Placed placing end (now (buckets .entry)) from r (now (out .entry)) (now (out .exit))
+        × Stops end (now (buckets .entry)) r
+        ⌝ }
 {
-    let mut i = from;
-    while i < buckets.len() {
-        let bucket = buckets[i];
-        if end <= bucket {
-            return i;
-        }
-        write_slot(out, 2 * i, slot_by(placing, by, bucket));
-        i += 1;
-    }
-    i
+    let left = write_fours(placing, by, end, buckets, from, out);
+    write_ones(placing, by, end, buckets, left, out)
 }
 
 // Writes the places of buckets that do not fall and are below B. A bucket lies in the interval of the one before it or in a later

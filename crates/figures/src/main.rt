@@ -3,6 +3,7 @@
 mod fresh;
 mod keep;
 mod lent;
+mod list;
 mod long;
 mod print;
 mod read;
@@ -13,6 +14,7 @@ fn main() {
     fresh::expansions();
     read::map_3();
     read::map_5();
+    list::lists();
     lent::tables();
     long::tables();
     keep::saves();

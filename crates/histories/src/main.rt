@@ -4,6 +4,7 @@ mod ask;
 mod compare;
 mod directory;
 mod history;
+mod list;
 mod print;
 mod state;
 mod total;
@@ -89,6 +90,7 @@ fn print_comparisons(s: State) {
     line(b"buckets", s.buckets_seen);
     line(b"bins", s.bins_seen);
     line(b"rows", s.rows_seen);
+    line(b"listed buckets", s.listed_seen);
     line(b"comparisons", s.compared);
     line(b"failed", s.failed);
 }
@@ -102,6 +104,7 @@ fn main() {
         buckets_seen: 0,
         bins_seen: 0,
         rows_seen: 0,
+        listed_seen: 0,
         compared: 0,
         failed: 0,
         seed: 20_261_115,

@@ -12,6 +12,7 @@ pub struct State {
     pub buckets_seen: u32,
     pub bins_seen: u32,
     pub rows_seen: u32,
+    pub listed_seen: u32,
     pub compared: u32,
     pub failed: u32,
     pub seed: u32,

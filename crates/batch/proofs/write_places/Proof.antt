@@ -5,7 +5,7 @@ use native.Mathlib.Omega.{arith}
 use lib.ListN.{length}
 use Rattle.model.specs.Table.{Arrays, arrays}
 use Rattle.model.proofs.Entries.{put-length}
-use Rattle.batch.proofs.Walk.{Walking, walking-starts, walking-among, found-places, found-more, walking-more, walking-ends}
+use Rattle.batch.proofs.Walk.{Walking, walking-starts, walking-among, found-placeable, found-more, walking-more, walking-ends}
 use Rattle.batch.proofs.write_places.Statement.{statement}
 use Rattle.batch.proofs.write_places.Tie as tie
 
@@ -99,13 +99,10 @@ write-interval-requires c κs =
     let found = placed .before .before .before in
     let turn = found .before .before .before in
     let s = start (turn .before) in (
-      found-places (s .args .buckets .now) (s .pre .0) (s .pre .1 .0) (more turn) (found .interval-from .ensures .1) _
-          (placed .placing-of .ensures .0) (placed .placing-of .ensures .1),
-      (
-        turn .before .loop .inv .on,
-        omega (arith, put-length (turn .before .loop .inv .put), s .pre .1 .1),
-        divided .reciprocal-of .ensures,
-      ),
+      found-placeable (s .args .buckets .now) (s .pre .0) (s .pre .1 .0) (more turn) (found .interval-from .ensures .1)
+          (placed .placing-of .ensures .0) (placed .placing-of .ensures .1) (divided .reciprocal-of .ensures)
+          (omega (arith, put-length (turn .before .loop .inv .put), s .pre .1 .1)),
+      turn .before .loop .inv .on,
     )
 
 loop-less : tie.Need-loop-less Inv-loop μ-loop
@@ -118,7 +115,7 @@ loop-less c =
     omega (
       arith,
       found-more (s .args .buckets .now) (s .pre .0) (s .pre .1 .0) (more turn) (found .interval-from .ensures .1)
-          (placed .placing-of .ensures .0) (written .write-interval .ensures),
+          (placed .placing-of .ensures .0) (written .write-interval .ensures .0) (written .write-interval .ensures .1),
       more turn,
     )
 
@@ -130,7 +127,7 @@ loop-again c =
     let turn = found .before .before .before in
     let s = start (turn .before) in
     walking-more (s .args .buckets .now) (s .pre .0) (s .pre .1 .0) (more turn) (found .interval-from .ensures .1)
-    (placed .placing-of .ensures .0) (written .write-interval .ensures) (turn .before .loop .inv)
+    (placed .placing-of .ensures .0) (written .write-interval .ensures .0) (turn .before .loop .inv)
 
 same-length : tie.Need-same-length Inv-loop μ-loop
 same-length c = put-length (c .before .loop .inv .put)
