@@ -1,5 +1,5 @@
 // The places of a list of buckets in a sound table: one walk of its intervals.
-ghost use Prim.Native.Nat.{ℕ, _+_, _-_, _*_, _<_, _≤_};
+ghost use Prim.Native.Nat.{ℕ, _+_, _-_, _*_, _^_, _<_, _≤_};
 ghost use mathlib.Core.Path.{_≡_};
 ghost use mathlib.Core.Bool.{false};
 ghost use lib.ListN.{length, getD};
@@ -10,6 +10,8 @@ ghost use Rattle.model.specs.Place.{places};
 ghost use Rattle.model.specs.Refusal.{first, falls as fallsIn};
 ghost use Rattle.model.specs.Calls.{answer, placesTests};
 ghost use Rattle.lookup.specs.Search.{Among, Ends};
+ghost use Rattle.reciprocal.specs.Divides.{Divides};
+ghost use Rattle.table.specs.Placing.{Places};
 ghost use Rattle.batch.specs.Slots.{slotPair, Placeable, Placed, Stops};
 use model::table::Header;
 use reciprocal::Reciprocal;
@@ -67,14 +69,23 @@ fn interval_from(ends: &[u32], k: usize, from: usize, bucket: u32) -> usize
     i + count_past(ends, i, k - i - 1, bucket)
 }
 
+// Writes the place of a bucket as that of number i.
+fn write_place(placing: Placing, by: Reciprocal, bucket: u32, i: usize, out: &mut [u32])
+    requires { ⌜ (Places placing bucket) × (bucket < 2 ^ 30) × Divides by (placing .bins) ⌝ }
+    requires { ⌜ 2 * i + 2 ≤ length (now out) ⌝ }
+    ensures { λ _. ⌜ now (out .exit) ≡ sets (now (out .entry)) (2 * i) (slotPair placing bucket) ⌝ }
+{
+    let slot = slot_by(placing, by, bucket);
+    out[2 * i] = slot.bin;
+    out[2 * i + 1] = slot.position;
+}
+
 // Writes the place of bucket number i.
 fn write_bucket(placing: Placing, by: Reciprocal, buckets: &[u32], i: usize, out: &mut [u32])
     requires { ⌜ Placeable placing by (now buckets) i (now out) × (i < length (now buckets)) ⌝ }
     ensures { λ _. ⌜ now (out .exit) ≡ sets (now (out .entry)) (2 * i) (slotPair placing (getD (now (buckets .entry)) i 0)) ⌝ }
 {
-    let slot = slot_by(placing, by, buckets[i]);
-    out[2 * i] = slot.bin;
-    out[2 * i + 1] = slot.position;
+    write_place(placing, by, buckets[i], i, out)
 }
 
 // Writes the places of the buckets from number `from` on, four at a time, as long as four are below `end`. Answers the number of
@@ -122,10 +133,11 @@ fn write_ones(
 {
     let mut i = from;
     while i < buckets.len() {
-        if end <= buckets[i] {
+        let bucket = buckets[i];
+        if end <= bucket {
             return i;
         }
-        write_bucket(placing, by, buckets, i, out);
+        write_place(placing, by, bucket, i, out);
         i += 1;
     }
     i

@@ -3,7 +3,7 @@ use Prim.Native.Nat.{_-_}
 use native.Mathlib.Omega.{arith}
 use lib.ListN.{length}
 use Rattle.model.proofs.Entries.{put-length}
-use Rattle.batch.proofs.Pairs.{Filling, filling-none, filling-more, filling-ends, placeable-later}
+use Rattle.batch.proofs.Pairs.{Filling, filling-none, filling-more, filling-ends}
 use Rattle.batch.proofs.write_ones.Statement.{statement}
 use Rattle.batch.proofs.write_ones.Tie as tie
 
@@ -16,11 +16,11 @@ abbrev μ-loop : tie.MeasureT-loop
 loop-holds : tie.Need-loop-holds Inv-loop μ-loop
 loop-holds c = filling-none _ _ _ _ _ (c .before .before .pre .1)
 
-mul-if1 : tie.Need-mul-if1 Inv-loop μ-loop
-mul-if1 c = omega arith
+mul-bucket : tie.Need-mul-bucket Inv-loop μ-loop
+mul-bucket c = omega arith
 
-shared-slice-read-if1 : tie.Need-shared-slice-read-if1 Inv-loop μ-loop
-shared-slice-read-if1 c = omega arith
+shared-slice-read-bucket : tie.Need-shared-slice-read-bucket Inv-loop μ-loop
+shared-slice-read-bucket c = omega arith
 
 same-length : tie.Need-same-length Inv-loop μ-loop
 same-length c = put-length (c .before .before .before .loop .inv .put)
@@ -28,11 +28,14 @@ same-length c = put-length (c .before .before .before .loop .inv .put)
 returns : tie.Need-returns Inv-loop μ-loop
 returns c = (filling-ends (c .before .before .before .loop .inv), λ l. c .if1 .taken)
 
-write-bucket-requires : tie.Need-write-bucket-requires Inv-loop μ-loop
-write-bucket-requires c κs =
+write-place-requires : tie.Need-write-place-requires Inv-loop μ-loop
+write-place-requires c κs =
     let in-loop = c .before .before .before in
     let f = in-loop .before .loop .inv in
-    (placeable-later (f .on) (put-length (f .put)) (in-loop .before .before .before .before .pre .0), in-loop .loop-test .taken)
+    let asked = in-loop .before .before .before .before .pre .0 in (
+      (asked .places _ (f .on) (in-loop .loop-test .taken), asked .small _ (in-loop .loop-test .taken), asked .divides),
+      omega (arith, in-loop .loop-test .taken, put-length (f .put), asked .room),
+    )
 
 add-i : tie.Need-add-i Inv-loop μ-loop
 add-i c = omega arith
@@ -44,7 +47,7 @@ loop-again : tie.Need-loop-again Inv-loop μ-loop
 loop-again c =
     let tested = c .before .before .before .before in
     let in-loop = tested .before .before in
-    filling-more (in-loop .before .loop .inv) (in-loop .loop-test .taken) (tested .if1 .left) (c .before .before .write-bucket .ensures)
+    filling-more (in-loop .before .loop .inv) (in-loop .loop-test .taken) (tested .if1 .left) (c .before .before .write-place .ensures)
 
 same-length-2 : tie.Need-same-length-2 Inv-loop μ-loop
 same-length-2 c = put-length (c .before .loop .inv .put)
@@ -59,11 +62,11 @@ write-ones-spec =
     Inv-loop
     μ-loop
     loop-holds
-    mul-if1
-    shared-slice-read-if1
+    mul-bucket
+    shared-slice-read-bucket
     same-length
     returns
-    write-bucket-requires
+    write-place-requires
     add-i
     loop-less
     loop-again
