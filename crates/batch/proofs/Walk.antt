@@ -4,23 +4,22 @@ use mathlib.Core.Path.{_≡_, refl, sym, _∙_, ap, ap₂, subst}
 use mathlib.Core.Bool.{false}
 use mathlib.Core.List.{List, [], _∷_, _++_}
 use mathlib.Core.Logic.{⊎-elim}
-use native.Mathlib.Nat.{le-of-lt}
 use native.Mathlib.Omega.{arith}
 use lib.ListN.{length, getD, take, drop, length-drop}
-use lib.Seq.{sets, getD-drop, getD-take, take-add, take-all, length-take-le}
+use lib.Seq.{getD-drop, getD-take, take-add, take-all, length-take-le}
 use Rattle.model.specs.Basics.{before, joined}
 use Rattle.model.specs.Table.{Arrays, table, over}
-use Rattle.model.specs.Place.{bin, position, place, places}
+use Rattle.model.specs.Place.{place, places}
 use Rattle.model.specs.Refusal.{falls}
 use Rattle.model.specs.Sound.{Sound}
 use Rattle.model.specs.declared.table.Header.{Header}
 use Rattle.model.proofs.Counts.{below-or}
-use Rattle.model.proofs.Batches.{length-places, falls-not}
-use Rattle.model.proofs.Entries.{Put, put-none, put-length, put-more, put-over}
+use Rattle.model.proofs.Batches.{falls-not}
+use Rattle.model.proofs.Entries.{Put, put-none, put-more, put-over}
 use Rattle.model.proofs.Mapped.{mapped-length, mapped-append, mapped-same}
 use Rattle.model.proofs.Rows.{lent-place}
 use Rattle.model.proofs.Rules.{before-next}
-use Rattle.lookup.specs.Search.{Among, Ends}
+use Rattle.lookup.specs.Search.{Among}
 use Rattle.lookup.proofs.Searches.{adjustment-below}
 use Rattle.reciprocal.specs.Divides.{Divides}
 use Rattle.reciprocal.specs.declared.Reciprocal.{Reciprocal}

@@ -3,18 +3,17 @@ use Prim.Native.Nat.{ℕ, zero, suc, _+_, _-_, _*_, _≤_, _<_}
 use mathlib.Core.Path.{_≡_, refl, sym, _∙_, ap, subst}
 use mathlib.Core.Logic.{_⊎_, ⊎-elim, inl, inr}
 use mathlib.Core.Bool.{Bool, true, false, not, false≢true}
-use mathlib.Core.List.{List, [], _∷_, _++_, map}
-use native.Mathlib.Decide.{ℕ-discrete}
+use mathlib.Core.List.{List, [], _∷_, map}
 use native.Mathlib.Omega.{arith}
 use lib.ListN.{length, getD}
 use lib.Dec.{leb}
 use borrow.Author.Tests.{not-true, not-false, leb-true, leb-false, le-leb, lt-leb}
 use Rattle.model.specs.Basics.{all, before, joined}
-use Rattle.model.specs.Table.{Table, Arrays, table, over}
+use Rattle.model.specs.Table.{Table, Arrays, table}
 use Rattle.model.specs.Place.{bin, position, place, places}
 use Rattle.model.specs.Refusal.{Test, first, bucketPast, somePast, falls, resultShort}
 use Rattle.model.specs.Search.{placeAt}
-use Rattle.model.specs.Calls.{tableTests, placeAnswer, placeTests, placeReply, placesTests, placesRefusal, placesAfter}
+use Rattle.model.specs.Calls.{tableTests, placeAnswer, placeReply, placesTests, placesRefusal, placesAfter}
 use Rattle.model.specs.TableClaims.{FallsWhere, Single, SomeOutside, PlacesSingle}
 use Rattle.model.specs.declared.table.Header.{Header}
 use Rattle.model.proofs.Mapped.{mapped-length}

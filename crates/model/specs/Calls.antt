@@ -1,10 +1,9 @@
 -- The ten calls: for each its tests in document 01's order, its whole reply, and what every lent list holds afterwards.
 -- A refusal replies with its number and zeros, and changes no list. Assumes nothing.
 use Prim.Native.Nat.{ℕ}
-use mathlib.Core.Bool.{Bool}
 use mathlib.Core.List.{List, [], _∷_, _++_}
 use lib.ListN.{length}
-use lib.Dec.{ltb, eqb}
+use lib.Dec.{eqb}
 use Rattle.model.specs.Basics.{if_then_else_, _or_, joined}
 use Rattle.model.specs.Table.{Shape, Table, Arrays, table, header, over, written}
 use Rattle.model.specs.Place.{places, binSize}

@@ -27,9 +27,8 @@ use native.Mathlib.Numerals.{add-one}
 use native.Mathlib.Omega.{arith}
 use lib.Dec.{lit<}
 use lib.Pow.{pow-add, shl-lt, shl-exact}
-use lib.Count.{leadingZeros, leading-le, leading-length}
+use lib.Count.{leadingZeros, leading-length}
 use Rattle.reciprocal.specs.Divides.{Divides}
-use Rattle.reciprocal.specs.declared.Reciprocal.{Reciprocal}
 
 -- n / d is the quotient of n * m by P, where m * d is at least P and exceeds it by at most e, and n * e is below P
 

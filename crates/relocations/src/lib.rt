@@ -2,10 +2,10 @@
 ghost use Prim.Native.Nat.{ℕ, _+_, _-_, _*_, _/_, _%_, _^_, min, _<_, _≤_};
 ghost use mathlib.Core.Path.{_≡_};
 ghost use mathlib.Core.List.{List, [], _∷_};
-ghost use lib.ListN.{length, getD};
+ghost use lib.ListN.{length};
 ghost use lib.Seq.{sets};
 ghost use Rattle.model.specs.Lent.{LentSound, lent, tableGiven, tableNow};
-ghost use Rattle.model.specs.Basics.{from, joined, before as entryBefore};
+ghost use Rattle.model.specs.Basics.{from, joined};
 ghost use Rattle.model.specs.Table.{arrays, interval, over, sizes};
 ghost use Rattle.model.specs.Refusal.{first as firstOf};
 ghost use Rattle.model.specs.Sound.{Sound};

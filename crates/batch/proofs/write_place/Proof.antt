@@ -1,12 +1,11 @@
 -- `batch::write_place` meets its contract: two stores. Assumes nothing.
 use Prim.Native.Nat.{_*_}
-use mathlib.Core.Path.{_∙_, ap}
+use mathlib.Core.Path.{ap}
 use mathlib.Core.List.{[], _∷_}
 use native.Mathlib.Numerals.{towards-suc}
 use native.Mathlib.Omega.{arith}
 use lib.ListN.{length-set}
 use lib.Seq.{sets}
-use borrow.Author.Needs.{needs}
 use Rattle.batch.proofs.write_place.Statement.{statement}
 use Rattle.batch.proofs.write_place.Tie as tie
 

@@ -3,7 +3,7 @@ use Prim.Native.Nat.{_-_, _<_}
 use mathlib.Core.Path.{ap}
 use native.Mathlib.Omega.{arith}
 use lib.ListN.{length}
-use Rattle.model.specs.Table.{Arrays, arrays}
+use Rattle.model.specs.Table.{arrays}
 use Rattle.model.proofs.Entries.{put-length}
 use Rattle.batch.proofs.Walk.{Walking, walking-starts, walking-among, found-placeable, found-more, walking-more, walking-ends}
 use Rattle.batch.proofs.write_places.Statement.{statement}

@@ -7,8 +7,6 @@ use Rattle.model.specs.Refusal.{rises}
 use Rattle.model.proofs.Flags.{rises-more}
 use Rattle.soundness.proofs.rising.Statement.{statement}
 use Rattle.soundness.proofs.rising.Tie as tie
-use Rattle.soundness.proofs.rising.Reads as reads
-use Rattle.soundness.proofs.rising.Lts as lts
 
 abbrev Inv-loop : tie.InvT-loop
 Inv-loop xs n ok₀ i₀ ok i = (1 ≤ i) × (i ≤ n) × (ok ≡ rises xs i)
