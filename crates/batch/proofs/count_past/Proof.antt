@@ -42,8 +42,8 @@ loop-again c =
     let passing : (n : ℕ) → Type 0 = λ n. Passing ends (turn .before .args .from) (turn .before .args .bucket) n (turn .loop .i + 1) in (
       omega arith,
       ⊎-elim
-          (λ w. subst passing (sym (w .1)) (passing-more rise (omega arith) (turn .loop .inv .1) (w .0 .taken)))
-          (λ w. subst passing (sym (w .1)) (passing-same rise (omega arith) (turn .loop .inv .1) (w .0 .left)))
+          (λ w. subst passing (sym (w .1)) (passing-more rise (omega arith) (turn .loop .inv .1) (omega (arith, w .0 .taken))))
+          (λ w. subst passing (sym (w .1)) (passing-same rise (omega arith) (turn .loop .inv .1) (omega (arith, w .0 .left))))
           (c .if1 .came),
     )
 
