@@ -125,7 +125,7 @@ static void fail(const char *what, int status)
 static struct map fresh(uint32_t buckets, uint32_t bins)
 {
 	struct map m = {0};
-	struct irr_table_reply reply = plain.initial(buckets, bins, ARRAYS(&m));
+	struct irr_table_reply reply = plain.initial(buckets, bins, IRR_MAX_CAPACITY, ARRAYS(&m));
 
 	if (reply.refusal != 0)
 		fail("a fresh map is refused", 2);
@@ -196,6 +196,7 @@ struct question {
 	const struct map *map;   /* the lent table */
 	size_t lengths[4];       /* of its arrays */
 	uint32_t x, y, z;        /* the numbers, in their order */
+	uint32_t capacity;       /* of a fresh or loaded map */
 	size_t new_lengths[4];   /* of the arrays of a new table */
 	size_t rows_length, buffer_length;
 	const uint8_t *bytes;    /* the file */
@@ -205,7 +206,7 @@ struct question {
 };
 
 struct answer {
-	uint32_t reply[5];
+	uint32_t reply[6];
 	uint32_t tops[MAX_BLOCKS + PAST], ends[MAX_INTERVALS + PAST];
 	uint32_t blocks[MAX_INTERVALS + PAST], adjustments[MAX_INTERVALS + PAST];
 	uint32_t rows[5 * PAGE + PAST];
@@ -234,7 +235,7 @@ static void ask(const struct calls *c, const struct question *q, struct answer *
 	memset(a, 0xa5, answer_size(q));
 	switch (q->call) {
 	case INITIAL:
-		REPLY(a, c->initial(q->x, q->y, NEW(q, a)));
+		REPLY(a, c->initial(q->x, q->y, q->capacity, NEW(q, a)));
 		break;
 	case EXPAND:
 		REPLY(a, c->expand(LENT(q), q->x, q->y, NEW(q, a)));
@@ -262,7 +263,7 @@ static void ask(const struct calls *c, const struct question *q, struct answer *
 		REPLY(a, c->save(LENT(q), a->buffer, q->buffer_length));
 		break;
 	default:
-		REPLY(a, c->load(q->bytes, q->bytes_length, NEW(q, a)));
+		REPLY(a, c->load(q->bytes, q->bytes_length, q->capacity, NEW(q, a)));
 	}
 }
 
@@ -309,6 +310,7 @@ static struct question full_question(enum call call, const struct map *m)
 	return (struct question){
 		.call = call,
 		.map = m,
+		.capacity = IRR_MAX_CAPACITY,
 		.lengths = {MAX_BLOCKS, MAX_INTERVALS, MAX_INTERVALS, MAX_INTERVALS},
 		.new_lengths = {MAX_BLOCKS, MAX_INTERVALS, MAX_INTERVALS, MAX_INTERVALS},
 		.rows_length = 5 * SHORT_PAGE,
@@ -347,12 +349,31 @@ static void damage(struct map *m)
 	uint32_t count = m->header.interval_count;
 	uint32_t i = below(count < MAX_INTERVALS ? count : MAX_INTERVALS);
 	uint32_t *entries[] = {
-		&m->header.buckets, &m->header.block_count, &m->header.interval_count,
-		&m->tops[block], &m->ends[i], &m->blocks[i], &m->adjustments[i],
+		&m->header.buckets, &m->header.capacity, &m->header.block_count,
+		&m->header.interval_count, &m->tops[block], &m->ends[i], &m->blocks[i],
+		&m->adjustments[i],
 	};
-	uint32_t *entry = entries[below(7)];
+	uint32_t *entry = entries[below(8)];
 
 	*entry = near(*entry);
+}
+
+/* A capacity for a map of these sizes: mostly that of its largest bin or a little more, or the
+ * greatest. Sizes that are 0 or too many bins are refused whatever it is. */
+static uint32_t capacity_for(uint32_t buckets, uint32_t bins)
+{
+	uint32_t least = bins == 0 ? 1 : buckets / bins + (buckets % bins > 0);
+
+	switch (below(4)) {
+	case 0:
+		return least;
+	case 1:
+		return least + below(3);
+	case 2:
+		return IRR_MAX_CAPACITY;
+	default:
+		return near(below(4) ? least : IRR_MAX_CAPACITY);
+	}
 }
 
 /* A random list, with repeats and gaps, and room for its places. Mostly it does not fall. */
@@ -388,6 +409,7 @@ static void ask_numbers(struct question *q, const struct map *m)
 	case INITIAL:
 		q->x = below(2) ? near(buckets) : near(bins);
 		q->y = below(8) ? near(bins) : near(65535);
+		q->capacity = capacity_for(q->x, q->y);
 		break;
 	case EXPAND:
 	case RELOCATIONS:
@@ -403,6 +425,9 @@ static void ask_numbers(struct question *q, const struct map *m)
 		break;
 	case PLACES:
 		ask_list(q, m);
+		break;
+	case LOAD:
+		q->capacity = capacity_for(buckets, bins);
 		break;
 	default:
 		q->x = below(4) ? below(bins) : near(bins);
@@ -437,6 +462,7 @@ static void compare_about(const struct map *whole)
 		struct question q = full_question(call, &m);
 
 		m = *whole;
+		m.header.capacity = capacity_for(m.header.buckets, bins_of(&m));
 		ask_numbers(&q, whole);
 		q.bytes = file;
 		q.bytes_length = saved.length;
@@ -467,7 +493,7 @@ static void compare_growths(const struct map *m)
 static void compare_random(const struct map *large, size_t count)
 {
 	static const int numbers[] = {1, 2, 3, 4, 5, 6, 7, 8, 9, 11, 12, 13, 14, 15, 16, 21,
-				      32, 33};
+				      30, 31, 32, 33};
 	struct map m;
 
 	for (int i = 0; i < 3000; i++) {
@@ -517,7 +543,8 @@ LOOP(initial_loop)
 	uint32_t sum = 0;
 
 	EACH_CALL
-		sum += c->initial(w->x[TURN], w->y[TURN], ARRAYS(&out)).header.buckets;
+		sum += c->initial(w->x[TURN], w->y[TURN], IRR_MAX_CAPACITY,
+				  ARRAYS(&out)).header.buckets;
 	return sum;
 }
 
@@ -604,7 +631,8 @@ LOOP(load_loop)
 	uint32_t sum = 0;
 
 	EACH_CALL
-		sum += c->load(w->bytes, w->bytes_length, ARRAYS(&out)).header.interval_count;
+		sum += c->load(w->bytes, w->bytes_length, IRR_MAX_CAPACITY,
+			       ARRAYS(&out)).header.interval_count;
 	return sum;
 }
 

@@ -186,7 +186,14 @@ static inline __attribute__((always_inline)) uint32_t sums_refusal(const struct 
 	return holdings_wrong(t->header, t->share, t->tops, sums) ? 15 : 0;
 }
 
-/* The refusal of a lent table: 11 to 16, or 0. Then its share is known. */
+/* 30: the capacity is 0 or above its limit, or below the size of the largest bin of a map of
+ * which every bin has its due. */
+static inline bool capacity_wrong(struct irr_header h, uint32_t bins)
+{
+	return outside(IRR_MAX_CAPACITY, h.capacity) || overfull(h.capacity, h.buckets, bins);
+}
+
+/* The refusal of a lent table: 11 to 16, 30, or 0. Then its share is known. */
 static uint32_t check(struct table *t, size_t tops_length, size_t ends_length,
 		      size_t blocks_length, size_t adjustments_length)
 {
@@ -200,7 +207,10 @@ static uint32_t check(struct table *t, size_t tops_length, size_t ends_length,
 	if (refusal != 0)
 		return refusal;
 	t->share = share_of(h.buckets, bins_of(t));
-	return sums_refusal(t);
+	refusal = sums_refusal(t);
+	if (refusal != 0)
+		return refusal;
+	return capacity_wrong(h, bins_of(t)) ? 30 : 0;
 }
 
 /* 21: less room than any new table may need. */
@@ -392,7 +402,7 @@ static inline void place_each(struct table t, const uint32_t *buckets, size_t co
 /* ---------------------------------------------------------------- the calls */
 
 struct irr_table_reply
-plain_initial(uint32_t buckets, uint32_t bins,
+plain_initial(uint32_t buckets, uint32_t bins, uint32_t capacity,
 	      uint32_t *tops, size_t tops_length, uint32_t *ends, size_t ends_length,
 	      uint32_t *blocks, size_t blocks_length,
 	      uint32_t *adjustments, size_t adjustments_length)
@@ -401,7 +411,9 @@ plain_initial(uint32_t buckets, uint32_t bins,
 
 	if (room_short(tops_length, ends_length, blocks_length, adjustments_length))
 		return refused_table(21);
-	return initial(buckets, bins, &new);
+	if (outside(IRR_MAX_CAPACITY, capacity))
+		return refused_table(30);
+	return initial(buckets, bins, capacity, &new);
 }
 
 struct irr_table_reply
@@ -579,7 +591,9 @@ plain_save(struct irr_header header,
 	if (buffer_length < saved_length(header))
 		return (struct irr_save_reply){.refusal = 21};
 
-	buffer = put_numbers(buffer, &header, 3);
+	uint32_t counts[] = {header.buckets, header.block_count, header.interval_count};
+
+	buffer = put_numbers(buffer, counts, 3);
 	buffer = put_numbers(buffer, tops, header.block_count);
 	buffer = put_numbers(buffer, ends, header.interval_count);
 	put_numbers(buffer, blocks, header.interval_count);
@@ -618,25 +632,15 @@ static inline uint32_t adjust(struct irr_header h, const void *tops, const void 
 	return holdings_wrong(h, share, tops, sums) ? 15 : 0;
 }
 
-/* As place_reply. */
-static inline struct irr_load_reply load_reply(uint32_t refusal, struct irr_header h)
-{
-	struct irr_load_reply reply;
-	uint64_t halves[] = {pair(refusal, h.buckets), pair(h.block_count, h.interval_count)};
-
-	memcpy(&reply, halves, sizeof reply);
-	return reply;
-}
-
 static inline struct irr_load_reply refused_load(uint32_t refusal)
 {
-	return load_reply(refusal, (struct irr_header){0, 0, 0});
+	return (struct irr_load_reply){.refusal = refusal};
 }
 
 /* The file is tested where it lies, and its adjustments are worked out in an array of its
  * own: a refused file writes nothing. */
 struct irr_load_reply
-plain_load(const uint8_t *bytes, size_t bytes_length,
+plain_load(const uint8_t *bytes, size_t bytes_length, uint32_t capacity,
 	   uint32_t *tops, size_t tops_length, uint32_t *ends, size_t ends_length,
 	   uint32_t *blocks, size_t blocks_length,
 	   uint32_t *adjustments, size_t adjustments_length)
@@ -649,7 +653,7 @@ plain_load(const uint8_t *bytes, size_t bytes_length,
 	if (bytes_length < 12)
 		return refused_load(11);
 
-	struct irr_header h = {number(bytes, 0), number(bytes, 1), number(bytes, 2)};
+	struct irr_header h = {number(bytes, 0), capacity, number(bytes, 1), number(bytes, 2)};
 
 	if (header_wrong(h) || bytes_length != saved_length(h))
 		return refused_load(11);
@@ -662,11 +666,13 @@ plain_load(const uint8_t *bytes, size_t bytes_length,
 	refusal = order_refusal(h, file_tops, file_ends, file_blocks);
 	if (refusal == 0)
 		refusal = adjust(h, file_tops, file_ends, file_blocks, adjustment);
+	if (refusal == 0 && capacity_wrong(h, number(file_tops, h.block_count - 1)))
+		refusal = 30;
 	if (refusal != 0)
 		return refused_load(refusal);
 	memcpy(tops, file_tops, tops_bytes);
 	memcpy(ends, file_ends, bytes_each);
 	memcpy(blocks, file_blocks, bytes_each);
 	memcpy(adjustments, adjustment, bytes_each);
-	return load_reply(0, h);
+	return (struct irr_load_reply){0, h};
 }

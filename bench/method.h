@@ -2,8 +2,8 @@
  * and bench/rackmap.c (the program) have in common.
  *
  * Document 01's drawer, group and run are called bin, block and interval here, after
- * source 000. Numbers in comments are its refusals. All sizes, ranks and sums stay below
- * 2^32: a sum has at most two terms of at most 1,000,000,000 each.
+ * source 000. Numbers in comments are its refusals and those of document 02. All sizes, ranks
+ * and sums stay below 2^32: a sum has at most two terms of at most 1,000,000,000 each.
  */
 #ifndef BENCH_METHOD_H
 #define BENCH_METHOD_H
@@ -97,7 +97,24 @@ static inline uint32_t size_refusal(uint32_t buckets, uint32_t bins)
 	return bins > buckets ? 2 : 0;
 }
 
-/* The refusal of the sizes of a growth: 1 to 5, or 0. */
+/* Whether some bin of a map of these sizes is due more than the capacity. The first is due the
+ * most, B / n rounded up. */
+static inline bool overfull(uint32_t capacity, uint32_t buckets, uint32_t bins)
+{
+	return (uint64_t)capacity * bins < buckets;
+}
+
+/* The refusal of the sizes of a fresh map: 1, 2, 31, or 0. */
+static inline uint32_t fresh_refusal(uint32_t buckets, uint32_t bins, uint32_t capacity)
+{
+	uint32_t refusal = size_refusal(buckets, bins);
+
+	if (refusal != 0)
+		return refusal;
+	return overfull(capacity, buckets, bins) ? 31 : 0;
+}
+
+/* The refusal of the sizes of a growth: 1 to 5, 31, or 0. */
 static inline uint32_t growth_refusal(const struct table *old, uint32_t buckets, uint32_t bins)
 {
 	uint32_t refusal = size_refusal(buckets, bins);
@@ -110,7 +127,7 @@ static inline uint32_t growth_refusal(const struct table *old, uint32_t buckets,
 		return 4;
 	if (bins > bins_of(old) && old->header.block_count == IRR_MAX_BLOCKS)
 		return 5;
-	return 0;
+	return overfull(old->header.capacity, buckets, bins) ? 31 : 0;
 }
 
 static inline struct irr_table_reply refused_table(uint32_t refusal)
@@ -121,16 +138,16 @@ static inline struct irr_table_reply refused_table(uint32_t refusal)
 /* ------------------------------------------------------ fresh map and growth */
 
 /* A fresh map, written to arrays with room for any table. */
-static inline struct irr_table_reply initial(uint32_t buckets, uint32_t bins,
+static inline struct irr_table_reply initial(uint32_t buckets, uint32_t bins, uint32_t capacity,
 					    struct new_table *new)
 {
-	uint32_t refusal = size_refusal(buckets, bins);
+	uint32_t refusal = fresh_refusal(buckets, bins, capacity);
 
 	if (refusal != 0)
 		return refused_table(refusal);
 	new->tops[0] = bins;
 	add_interval(new, buckets, 0, 0);
-	return (struct irr_table_reply){.header = {buckets, 1, 1}};
+	return (struct irr_table_reply){.header = {buckets, capacity, 1, 1}};
 }
 
 /* What the bins below `top` are due. */
@@ -339,7 +356,7 @@ grown(struct table lent, uint32_t buckets, uint32_t bins, struct new_table lent_
 
 	return (struct irr_table_reply){
 		.moved = most < h.buckets ? h.buckets - most : 0,
-		.header = {buckets, h.block_count + (bins > bins_of(old)), count},
+		.header = {buckets, h.capacity, h.block_count + (bins > bins_of(old)), count},
 	};
 }
 

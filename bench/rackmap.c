@@ -166,7 +166,7 @@ static inline struct new_table to_write(struct map *m)
 static void fresh(uint32_t buckets, uint32_t bins)
 {
 	struct new_table new = to_write(map);
-	struct irr_table_reply reply = initial(buckets, bins, &new);
+	struct irr_table_reply reply = initial(buckets, bins, IRR_MAX_CAPACITY, &new);
 
 	if (reply.refusal != 0) {
 		refuse(reply.refusal);

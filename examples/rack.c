@@ -1,11 +1,15 @@
 /*
- * A rack kept through the C calls: a fresh map, three growths with their moves, the map saved,
- * loaded elsewhere, and asked where its buckets are. The sizes are those of document 01's listing.
+ * A rack kept through the C calls: a fresh map, three growths with their moves, one that its bins
+ * are too small for, the map saved, loaded elsewhere, and asked where its buckets are. The other
+ * sizes are those of document 01's listing.
  */
 #include <stdio.h>
 #include <stdlib.h>
 
 #include "irr.h"
+
+/* the positions in every bin; the saved form does not have them, so loading needs them again */
+enum { CAPACITY = 5 };
 
 /* One table: its header, and room for the largest map. */
 struct table {
@@ -68,6 +72,20 @@ static void grow(const struct table *old, uint32_t buckets, uint32_t bins, struc
     print_moves(old, buckets, bins);
 }
 
+/* asks for a growth after which some bin would hold more buckets than it has positions */
+static void overfill(const struct table *old, uint32_t buckets, uint32_t bins, struct table *grown)
+{
+    struct irr_table_reply reply =
+        irr_expand(old->header, ARRAYS(old), buckets, bins, ARRAYS(grown));
+    if (reply.refusal != IRR_BIN_OVERFULL) {
+        fprintf(stderr, "rack: irr_expand: an overfull bin, and refusal %u\n",
+                (unsigned)reply.refusal);
+        exit(EXIT_FAILURE);
+    }
+    printf("growth to %u buckets in %u bins: refused, a bin has only %u positions\n",
+           (unsigned)buckets, (unsigned)bins, (unsigned)old->header.capacity);
+}
+
 /* each bin with the buckets at its positions */
 static void print_bins(const struct table *t, uint32_t bins)
 {
@@ -120,19 +138,20 @@ int main(void)
     static struct table one, two, loaded;
     static uint8_t file[IRR_MAX_SAVED];
 
-    struct irr_table_reply made = irr_initial(10, 2, ARRAYS(&one));
+    struct irr_table_reply made = irr_initial(10, 2, CAPACITY, ARRAYS(&one));
     need("irr_initial", made.refusal);
     one.header = made.header;
-    printf("fresh map of 10 buckets in 2 bins\n");
+    printf("fresh map of 10 buckets in 2 bins of %u positions\n", (unsigned)CAPACITY);
     print_table(&one);
 
     grow(&one, 10, 3, &two);
     grow(&two, 14, 4, &one);
     grow(&one, 14, 5, &two);
+    overfill(&two, 26, 5, &one);
 
     struct irr_save_reply saved = irr_save(two.header, ARRAYS(&two), file, sizeof file);
     need("irr_save", saved.refusal);
-    struct irr_load_reply load = irr_load(file, saved.length, ARRAYS(&loaded));
+    struct irr_load_reply load = irr_load(file, saved.length, CAPACITY, ARRAYS(&loaded));
     need("irr_load", load.refusal);
     loaded.header = load.header;
     printf("saved in %u bytes, and loaded\n", (unsigned)saved.length);

@@ -6,6 +6,7 @@
  * were added together; an interval is a span of bucket numbers, all in one block; the rank of a
  * bucket is its number less the adjustment of its interval; an expansion adds buckets, bins or
  * both. Document 01 calls them drawer (bin), group (block), run (interval) and growth (expansion).
+ * The capacity P is the number of positions in every bin: no bin holds more buckets.
  *
  * A table is a header and four arrays: tops (one a block: the bins up to and including it), and
  * ends, blocks and adjustments (one an interval: the first bucket past it, its block's number, its
@@ -33,19 +34,20 @@ extern "C" {
 
 /* The version of this header and its library; IRR_VERSION is one number, to compare in an #if. */
 #define IRR_VERSION_MAJOR 0
-#define IRR_VERSION_MINOR 2
+#define IRR_VERSION_MINOR 3
 #define IRR_VERSION_PATCH 0
 #define IRR_VERSION (10000 * IRR_VERSION_MAJOR + 100 * IRR_VERSION_MINOR + IRR_VERSION_PATCH)
 
-#define IRR_MAX_BUCKETS 1000000000 /* B */
-#define IRR_MAX_BINS 65535         /* n, which is also at most B */
-#define IRR_MAX_BLOCKS 65          /* entries of tops to lend for a new table */
-#define IRR_MAX_INTERVALS 2081     /* entries of each interval array to lend for a new table */
-#define IRR_MAX_EXPANSIONS 64      /* the most that irr_room answers for */
-#define IRR_ROW 5                  /* numbers in a row of irr_relocations */
-#define IRR_MAX_SAVED 16920        /* bytes of the largest saved map: 12 + 4 * 65 + 8 * 2081 */
+#define IRR_MAX_BUCKETS 1000000000  /* B */
+#define IRR_MAX_CAPACITY 1000000000 /* P; with this one, no bin of any map is overfull */
+#define IRR_MAX_BINS 65535          /* n, which is also at most B */
+#define IRR_MAX_BLOCKS 65           /* entries of tops to lend for a new table */
+#define IRR_MAX_INTERVALS 2081      /* entries of each interval array to lend for a new table */
+#define IRR_MAX_EXPANSIONS 64       /* the most that irr_room answers for */
+#define IRR_ROW 5                   /* numbers in a row of irr_relocations */
+#define IRR_MAX_SAVED 16920         /* bytes of the largest saved map: 12 + 4 * 65 + 8 * 2081 */
 
-/* The refusal numbers, as document 01 has them. */
+/* The refusal numbers, as document 01 has them, and those that requests add to it. */
 enum irr_refusal {
     IRR_OK = 0,
     /* sizes asked for */
@@ -54,6 +56,7 @@ enum irr_refusal {
     IRR_SIZE_BELOW = 3,      /* a size is below the old one */
     IRR_SIZES_EQUAL = 4,     /* both sizes equal the old ones */
     IRR_BLOCKS_FULL = 5,     /* more bins, with 65 blocks present */
+    IRR_BIN_OVERFULL = 31,   /* some bin would be due more buckets than the capacity */
     IRR_INTERVALS_FULL = 8,  /* the new table needs more than 2,081 intervals */
     /* what is asked of a map */
     IRR_BUCKET_OUTSIDE = 6,  /* bucket not below B */
@@ -69,6 +72,8 @@ enum irr_refusal {
     IRR_WRONG_BLOCK = 14,    /* an interval's block not below the number of blocks */
     IRR_WRONG_HOLDING = 15,  /* a block whose intervals hold another number than its due */
     IRR_WRONG_ADJUSTMENT = 16, /* other than the buckets of other blocks before the interval */
+    IRR_WRONG_CAPACITY = 30, /* the capacity is 0 or above its limit, or, in a lent or loaded map,
+                                below the size of its largest bin */
     /* lent room */
     IRR_ROOM_SHORT = 21,     /* below 65 tops or 2,081 of an interval array, or a file's length */
     IRR_RESULT_SHORT = 33    /* a result shorter than two numbers a bucket */
@@ -77,6 +82,7 @@ enum irr_refusal {
 /* What travels with the four arrays of a table. */
 struct irr_header {
     uint32_t buckets;        /* B */
+    uint32_t capacity;       /* P: positions in every bin */
     uint32_t block_count;    /* entries of tops in use */
     uint32_t interval_count; /* entries of ends, blocks and adjustments in use */
 };
@@ -129,20 +135,21 @@ struct irr_load_reply {
 };
 
 /*
- * A fresh map of `buckets` in `bins`: one block, one interval.
- * Refusals: 21, 1, 2. Writes entry 0 of each array.
+ * A fresh map of `buckets` in `bins` of the given capacity: one block, one interval.
+ * Refusals: 21, 30, 1, 2, 31. Writes entry 0 of each array.
  */
 struct irr_table_reply irr_initial(
-    uint32_t buckets, uint32_t bins,
+    uint32_t buckets, uint32_t bins, uint32_t capacity,
     uint32_t *tops, size_t tops_len,
     uint32_t *ends, size_t ends_len,
     uint32_t *blocks, size_t blocks_len,
     uint32_t *adjustments, size_t adjustments_len);
 
 /*
- * The map of `buckets` in `bins` that follows the lent one, which is only read.
- * Refusals: 21, 11, 12, 13, 14, 15, 16, 1, 2, 3, 4, 5, 8. Writes to the new arrays as many entries
- * as the header of its reply counts.
+ * The map of `buckets` in `bins` that follows the lent one, which is only read. It has the capacity
+ * of the lent one.
+ * Refusals: 21, 11, 12, 13, 14, 15, 16, 30, 1, 2, 3, 4, 5, 31, 8. Writes to the new arrays as many
+ * entries as the header of its reply counts.
  */
 struct irr_table_reply irr_expand(
     struct irr_header header,
@@ -159,8 +166,8 @@ struct irr_table_reply irr_expand(
 /*
  * The move list of the expansion of the lent map to `buckets` in `bins`, from order number `first`
  * (from 0) on. Rows rise by bucket; a row is bucket, old bin, old position, new bin, new position.
- * Refusals: 11, 12, 13, 14, 15, 16, 1, 2, 3, 4, 5, 9; not 8. Writes as many rows as remain or fit
- * whole into `rows`; `first` equal to the total writes none.
+ * Refusals: 11, 12, 13, 14, 15, 16, 30, 1, 2, 3, 4, 5, 31, 9; not 8. Writes as many rows as remain
+ * or fit whole into `rows`; `first` equal to the total writes none.
  */
 struct irr_relocations_reply irr_relocations(
     struct irr_header header,
@@ -173,7 +180,7 @@ struct irr_relocations_reply irr_relocations(
 
 /*
  * The bin and the position of a bucket.
- * Refusals: 11, 12, 13, 14, 15, 16, 6. Writes nothing.
+ * Refusals: 11, 12, 13, 14, 15, 16, 30, 6. Writes nothing.
  */
 struct irr_place_reply irr_place(
     struct irr_header header,
@@ -186,7 +193,7 @@ struct irr_place_reply irr_place(
 /*
  * The bins and positions of a list of buckets that does not fall: a bucket may stand in it twice,
  * but not behind a larger one. An empty list is accepted.
- * Refusals: 33, 11, 12, 13, 14, 15, 16, 32, 6; 32 and 6 each over the whole list. Writes to
+ * Refusals: 33, 11, 12, 13, 14, 15, 16, 30, 32, 6; 32 and 6 each over the whole list. Writes to
  * `places` two numbers a bucket, its bin and its position, in the order of the list.
  */
 struct irr_places_reply irr_places(
@@ -200,7 +207,7 @@ struct irr_places_reply irr_places(
 
 /*
  * The bucket at a position of a bin.
- * Refusals: 11, 12, 13, 14, 15, 16, 7. Writes nothing.
+ * Refusals: 11, 12, 13, 14, 15, 16, 30, 7. Writes nothing.
  */
 struct irr_find_reply irr_find(
     struct irr_header header,
@@ -212,7 +219,7 @@ struct irr_find_reply irr_find(
 
 /*
  * The number of buckets in a bin (drawer count).
- * Refusals: 11, 12, 13, 14, 15, 16, 7. Writes nothing.
+ * Refusals: 11, 12, 13, 14, 15, 16, 30, 7. Writes nothing.
  */
 struct irr_bin_size_reply irr_bin_size(
     struct irr_header header,
@@ -230,8 +237,9 @@ struct irr_room_reply irr_room(uint32_t expansions);
 
 /*
  * The saved form of a table: 4-byte numbers, low byte first: B, the number of blocks and of
- * intervals, the tops, the ends, the blocks of the intervals.
- * Refusals: 11, 12, 13, 14, 15, 16, 21. Writes 12 + 4 * blocks + 8 * intervals bytes of `buffer`.
+ * intervals, the tops, the ends, the blocks of the intervals. The capacity is not saved.
+ * Refusals: 11, 12, 13, 14, 15, 16, 30, 21. Writes 12 + 4 * blocks + 8 * intervals bytes of
+ * `buffer`.
  */
 struct irr_save_reply irr_save(
     struct irr_header header,
@@ -242,11 +250,12 @@ struct irr_save_reply irr_save(
     uint8_t *buffer, size_t buffer_len);
 
 /*
- * The table of a saved map; the adjustments, which are not saved, are worked out.
- * Refusals: 21, 11, 12, 13, 14, 15. Writes as many entries as the header of its reply counts.
+ * The table of a saved map, with the given capacity; the adjustments, which are not saved, are
+ * worked out.
+ * Refusals: 21, 11, 12, 13, 14, 15, 30. Writes as many entries as the header of its reply counts.
  */
 struct irr_load_reply irr_load(
-    const uint8_t *bytes, size_t bytes_len,
+    const uint8_t *bytes, size_t bytes_len, uint32_t capacity,
     uint32_t *tops, size_t tops_len,
     uint32_t *ends, size_t ends_len,
     uint32_t *blocks, size_t blocks_len,

@@ -12,11 +12,12 @@
     _Static_assert(offsetof(struct type, field) == (offset), #type " " #field)
 #define SIZE(type, size) _Static_assert(sizeof(struct type) == (size), #type)
 
-SIZE(irr_header, 12);
+SIZE(irr_header, 16);
 AT(irr_header, buckets, 0);
-AT(irr_header, block_count, 4);
-AT(irr_header, interval_count, 8);
-SIZE(irr_table_reply, 20);
+AT(irr_header, capacity, 4);
+AT(irr_header, block_count, 8);
+AT(irr_header, interval_count, 12);
+SIZE(irr_table_reply, 24);
 AT(irr_table_reply, refusal, 0);
 AT(irr_table_reply, moved, 4);
 AT(irr_table_reply, header, 8);
@@ -42,7 +43,7 @@ AT(irr_room_reply, intervals, 4);
 SIZE(irr_save_reply, 8);
 AT(irr_save_reply, refusal, 0);
 AT(irr_save_reply, length, 4);
-SIZE(irr_load_reply, 16);
+SIZE(irr_load_reply, 20);
 AT(irr_load_reply, refusal, 0);
 AT(irr_load_reply, header, 4);
 
@@ -53,8 +54,8 @@ _Static_assert(IRR_OK == 0 && IRR_SIZE_OUTSIDE == 1 && IRR_BINS_ABOVE == 2 &&
                    IRR_BUCKET_OUTSIDE == 6 && IRR_PLACE_OUTSIDE == 7 && IRR_INTERVALS_FULL == 8 &&
                    IRR_ORDER_OUTSIDE == 9 && IRR_WRONG_COUNT == 11 && IRR_WRONG_TOP == 12 &&
                    IRR_WRONG_END == 13 && IRR_WRONG_BLOCK == 14 && IRR_WRONG_HOLDING == 15 &&
-                   IRR_WRONG_ADJUSTMENT == 16 && IRR_ROOM_SHORT == 21 && IRR_LIST_FALLS == 32 &&
-                   IRR_RESULT_SHORT == 33,
+                   IRR_WRONG_ADJUSTMENT == 16 && IRR_ROOM_SHORT == 21 && IRR_WRONG_CAPACITY == 30 &&
+                   IRR_BIN_OVERFULL == 31 && IRR_LIST_FALLS == 32 && IRR_RESULT_SHORT == 33,
                "refusal numbers");
 
 struct table {
@@ -67,7 +68,8 @@ struct table {
         (t)->adjustments, IRR_MAX_INTERVALS
 #define NONE(p) p, 0, p, 0, p, 0, p, 0
 
-enum { MOST_NUMBERS = 9 };
+/* the capacity of document 01's figures */
+enum { MOST_NUMBERS = 9, P = 1000000000 };
 
 static int checks, faults;
 
@@ -89,7 +91,7 @@ static void same(const char *what, const void *got, size_t n, const uint32_t *wa
     sizeof((const uint32_t[]){__VA_ARGS__}) / 4, (const uint32_t[]) { __VA_ARGS__ }
 
 /* the fields of a reply, by name */
-#define HEADER(h) (h).buckets, (h).block_count, (h).interval_count
+#define HEADER(h) (h).buckets, (h).capacity, (h).block_count, (h).interval_count
 #define TABLE(r) (const uint32_t[]){(r).refusal, (r).moved, HEADER((r).header)}
 #define LIST(r) (const uint32_t[]){(r).refusal, (r).written, (r).total}
 #define PLACE(r) (const uint32_t[]){(r).refusal, (r).bin, (r).position}
@@ -105,8 +107,8 @@ static struct table a, b;
 /* each function once, accepted, every field of its reply; the figures of document 01 */
 static void check_replies(void)
 {
-    struct irr_table_reply table = irr_initial(10, 2, ARRAYS(&a));
-    same("irr_initial", TABLE(table), WANT(0, 0, 10, 1, 1));
+    struct irr_table_reply table = irr_initial(10, 2, P, ARRAYS(&a));
+    same("irr_initial", TABLE(table), WANT(0, 0, 10, P, 1, 1));
     a.header = table.header;
     struct irr_place_reply place = irr_place(a.header, ARRAYS(&a), 7);
     same("irr_place", PLACE(place), WANT(0, 1, 3));
@@ -117,7 +119,7 @@ static void check_replies(void)
     same("row 1", rows, WANT(8, 0, 4, 2, 1));
     same("row 2", rows + IRR_ROW, WANT(9, 1, 4, 2, 2));
     table = irr_expand(a.header, ARRAYS(&a), 10, 3, ARRAYS(&b));
-    same("irr_expand", TABLE(table), WANT(0, 3, 10, 2, 2));
+    same("irr_expand", TABLE(table), WANT(0, 3, 10, P, 2, 2));
     b.header = table.header;
     same("tops", b.tops, WANT(2, 3));
     same("ends", b.ends, WANT(7, 10));
@@ -148,8 +150,8 @@ static void check_file(void)
     same("irr_save", SAVE(save), WANT(0, 36));
     same("bytes", file, 9, (const uint32_t *)(const void *)want);
     same("bytes past the file", file + 36, WANT(0xeeeeeeee));
-    struct irr_load_reply load = irr_load(file, 36, ARRAYS(&a));
-    same("irr_load", LOAD(load), WANT(0, 10, 2, 2));
+    struct irr_load_reply load = irr_load(file, 36, P, ARRAYS(&a));
+    same("irr_load", LOAD(load), WANT(0, 10, P, 2, 2));
     same("loaded tops", a.tops, WANT(2, 3));
     same("loaded ends", a.ends, WANT(7, 10));
     same("loaded blocks", a.blocks, WANT(0, 1));
@@ -160,42 +162,42 @@ static void check_file(void)
 static void check_figures(void)
 {
     struct irr_table_reply r = irr_expand(b.header, ARRAYS(&b), 14, 4, ARRAYS(&a));
-    same("(14, 4)", TABLE(r), WANT(0, 0, 14, 3, 4));
+    same("(14, 4)", TABLE(r), WANT(0, 0, 14, P, 3, 4));
     same("(14, 4) ends", a.ends, WANT(7, 10, 11, 14));
     same("(14, 4) blocks", a.blocks, WANT(0, 1, 0, 2));
     same("(14, 4) adjustments", a.adjustments, WANT(0, 7, 3, 11));
     r = irr_expand(r.header, ARRAYS(&a), 14, 5, ARRAYS(&b));
-    same("(14, 5)", TABLE(r), WANT(0, 2, 14, 4, 5));
+    same("(14, 5)", TABLE(r), WANT(0, 2, 14, P, 4, 5));
     same("(14, 5) ends", b.ends, WANT(6, 7, 10, 11, 14));
     same("(14, 5) blocks", b.blocks, WANT(0, 3, 1, 3, 2));
     same("(14, 5) adjustments", b.adjustments, WANT(0, 6, 7, 9, 11));
     r = irr_expand(r.header, ARRAYS(&b), 16, 5, ARRAYS(&a));
-    same("(16, 5)", TABLE(r), WANT(0, 0, 16, 4, 7));
+    same("(16, 5)", TABLE(r), WANT(0, 0, 16, P, 4, 7));
     same("(16, 5) ends", a.ends + 5, WANT(15, 16));
     same("(16, 5) blocks", a.blocks + 5, WANT(0, 3));
     same("(16, 5) adjustments", a.adjustments + 5, WANT(8, 13));
-    r = irr_initial(65535, 65535, ARRAYS(&a));
-    same("(65535, 65535)", TABLE(r), WANT(0, 0, 65535, 1, 1));
-    r = irr_initial(65536, 65536, ARRAYS(&a));
-    same("(65536, 65536)", TABLE(r), WANT(1, 0, 0, 0, 0));
-    r = irr_initial(1000000001, 1, ARRAYS(&a));
-    same("(1000000001, 1)", TABLE(r), WANT(1, 0, 0, 0, 0));
+    r = irr_initial(65535, 65535, P, ARRAYS(&a));
+    same("(65535, 65535)", TABLE(r), WANT(0, 0, 65535, P, 1, 1));
+    r = irr_initial(65536, 65536, P, ARRAYS(&a));
+    same("(65536, 65536)", TABLE(r), WANT(1, 0, 0, 0, 0, 0));
+    r = irr_initial(1000000001, 1, P, ARRAYS(&a));
+    same("(1000000001, 1)", TABLE(r), WANT(1, 0, 0, 0, 0, 0));
 }
 
 /* and those of small maps */
 static void check_small_figures(void)
 {
-    struct irr_table_reply r = irr_initial(1, 1, ARRAYS(&a));
-    same("(1, 1)", TABLE(r), WANT(0, 0, 1, 1, 1));
-    r = irr_initial(1, 2, ARRAYS(&a));
-    same("(1, 2)", TABLE(r), WANT(2, 0, 0, 0, 0));
-    r = irr_initial(4, 2, ARRAYS(&a));
+    struct irr_table_reply r = irr_initial(1, 1, P, ARRAYS(&a));
+    same("(1, 1)", TABLE(r), WANT(0, 0, 1, P, 1, 1));
+    r = irr_initial(1, 2, P, ARRAYS(&a));
+    same("(1, 2)", TABLE(r), WANT(2, 0, 0, 0, 0, 0));
+    r = irr_initial(4, 2, P, ARRAYS(&a));
     a.header = r.header;
     r = irr_expand(a.header, ARRAYS(&a), 6, 2, ARRAYS(&b));
-    same("(6, 2)", TABLE(r), WANT(0, 0, 6, 1, 1));
+    same("(6, 2)", TABLE(r), WANT(0, 0, 6, P, 1, 1));
     same("(6, 2) end", b.ends, WANT(6));
     r = irr_expand(a.header, ARRAYS(&a), 5, 4, ARRAYS(&b));
-    same("(5, 4)", TABLE(r), WANT(0, 1, 5, 2, 2));
+    same("(5, 4)", TABLE(r), WANT(0, 1, 5, P, 2, 2));
     same("(5, 4) ends", b.ends, WANT(3, 5));
     same("(5, 4) adjustments", b.adjustments, WANT(0, 3));
 }
@@ -203,14 +205,14 @@ static void check_small_figures(void)
 /* every array of length 0, its pointer anything: the refusal is that of the lengths */
 static void check_empty(uint32_t *p)
 {
-    struct irr_header header = {10, 1, 1};
+    struct irr_header header = {10, P, 1, 1};
     uint8_t *bytes = (uint8_t *)p;
-    struct irr_table_reply table = irr_initial(10, 2, NONE(p));
-    same("irr_initial, empty", TABLE(table), WANT(21, 0, 0, 0, 0));
+    struct irr_table_reply table = irr_initial(10, 2, P, NONE(p));
+    same("irr_initial, empty", TABLE(table), WANT(21, 0, 0, 0, 0, 0));
     table = irr_expand(header, NONE(p), 10, 3, NONE(p));
-    same("irr_expand, empty", TABLE(table), WANT(21, 0, 0, 0, 0));
+    same("irr_expand, empty", TABLE(table), WANT(21, 0, 0, 0, 0, 0));
     table = irr_expand(header, NONE(p), 10, 3, ARRAYS(&a));
-    same("irr_expand, empty table", TABLE(table), WANT(11, 0, 0, 0, 0));
+    same("irr_expand, empty table", TABLE(table), WANT(11, 0, 0, 0, 0, 0));
     struct irr_relocations_reply list = irr_relocations(header, NONE(p), 10, 3, 0, p, 0);
     same("irr_relocations, empty", LIST(list), WANT(11, 0, 0));
     struct irr_place_reply place = irr_place(header, NONE(p), 7);
@@ -223,11 +225,11 @@ static void check_empty(uint32_t *p)
     same("irr_bin_size, empty", BIN_SIZE(size), WANT(11, 0));
     struct irr_save_reply save = irr_save(header, NONE(p), bytes, 0);
     same("irr_save, empty", SAVE(save), WANT(11, 0));
-    struct irr_load_reply load = irr_load(bytes, 0, NONE(p));
-    same("irr_load, empty", LOAD(load), WANT(21, 0, 0, 0));
-    load = irr_load(bytes, 0, ARRAYS(&a));
-    same("irr_load, empty file", LOAD(load), WANT(11, 0, 0, 0));
-    table = irr_initial(10, 2, ARRAYS(&a));
+    struct irr_load_reply load = irr_load(bytes, 0, P, NONE(p));
+    same("irr_load, empty", LOAD(load), WANT(21, 0, 0, 0, 0));
+    load = irr_load(bytes, 0, P, ARRAYS(&a));
+    same("irr_load, empty file", LOAD(load), WANT(11, 0, 0, 0, 0));
+    table = irr_initial(10, 2, P, ARRAYS(&a));
     list = irr_relocations(table.header, ARRAYS(&a), 10, 3, 0, p, 0);
     same("irr_relocations, no rows", LIST(list), WANT(0, 0, 3));
     places = irr_places(table.header, ARRAYS(&a), p, 0, p, 0);

@@ -8,15 +8,19 @@
 #include "directory.h"
 #include "random.h"
 
-#define TABLE(t)                                                                  \
-    (t)->header, (t)->tops, (t)->tops_len, (t)->ends, (t)->intervals_len, (t)->blocks, \
-        (t)->intervals_len, (t)->adjustments, (t)->intervals_len
+#define ARRAYS(t)                                                                       \
+    (t)->tops, (t)->tops_len, (t)->ends, (t)->intervals_len, (t)->blocks, (t)->intervals_len, \
+        (t)->adjustments, (t)->intervals_len
+#define TABLE(t) (t)->header, ARRAYS(t)
+#define ROOM(t)                                                                             \
+    (t)->tops, IRR_MAX_BLOCKS, (t)->ends, IRR_MAX_INTERVALS, (t)->blocks, IRR_MAX_INTERVALS, \
+        (t)->adjustments, IRR_MAX_INTERVALS
 
 /* entries behind the places of a list, which no call may write, and what they hold */
 enum { PAST = 3, KEPT = 0xeeee };
 
 static struct directory before, after;
-static uint64_t maps, places, lists, growths, rows_seen;
+static uint64_t maps, places, lists, growths, rows_seen, overfull_seen;
 static uint32_t listed[2 * DIRECTORY_BUCKETS], numbers[4 * DIRECTORY_BUCKETS + PAST];
 static struct irr_place_reply single[DIRECTORY_BUCKETS];
 
@@ -37,6 +41,9 @@ static void check_sizes(const struct directory *d, const struct table *t)
         size[d->bin[x]]++;
     for (int y = 0; y < bins; y++) {
         struct irr_bin_size_reply r = irr_bin_size(TABLE(t), (uint32_t)y);
+        if ((uint32_t)size[y] > t->header.capacity)
+            fault("overfull: bin, size, capacity", (uint32_t)y, (uint32_t)size[y],
+                  t->header.capacity);
         if (size[y] != due[y])
             fault("directory: bin, size, due", (uint32_t)y, (uint32_t)size[y], (uint32_t)due[y]);
         if (r.refusal != 0 || r.buckets != (uint32_t)due[y])
@@ -44,6 +51,45 @@ static void check_sizes(const struct directory *d, const struct table *t)
         if (irr_find(TABLE(t), (uint32_t)y, r.buckets).refusal != IRR_PLACE_OUTSIDE)
             fault("irr_find past the end of bin", (uint32_t)y, r.buckets, 0);
     }
+}
+
+/* the size of the directory's largest bin */
+static uint32_t largest_size(const struct directory *d)
+{
+    static int size[DIRECTORY_BUCKETS];
+    int largest = 0;
+    for (int y = 0; y < directory_bins(d); y++)
+        size[y] = 0;
+    for (int x = 0; x < d->buckets; x++)
+        if (++size[d->bin[x]] > largest)
+            largest = size[d->bin[x]];
+    return (uint32_t)largest;
+}
+
+/* the refusal of placing bucket 0, if the table has another capacity */
+static uint32_t refusal_with(const struct table *t, uint32_t capacity)
+{
+    struct irr_header h = t->header;
+    h.capacity = capacity;
+    return irr_place(h, ARRAYS(t), 0).refusal;
+}
+
+/* the largest bin's size is the least capacity of the table, and of its file */
+static void check_capacity(const struct directory *d, const struct table *t)
+{
+    static struct table loaded;
+    static uint8_t file[IRR_MAX_SAVED];
+    uint32_t least = largest_size(d);
+    uint32_t length = irr_save(TABLE(t), file, sizeof file).length;
+    if (refusal_with(t, least) != 0)
+        fault("least capacity refused", least, t->header.buckets, refusal_with(t, least));
+    if (refusal_with(t, least - 1) != IRR_WRONG_CAPACITY)
+        fault("a capacity below the largest bin", least - 1, t->header.buckets, 0);
+    struct irr_load_reply r = irr_load(file, length, least, ROOM(&loaded));
+    if (r.refusal != 0 || r.header.capacity != least)
+        fault("irr_load, least capacity: refusal, capacity", least, r.refusal, r.header.capacity);
+    if (irr_load(file, length, least - 1, ROOM(&loaded)).refusal != IRR_WRONG_CAPACITY)
+        fault("irr_load with a capacity below the largest bin", least - 1, t->header.buckets, 0);
 }
 
 /* place and find, of every bucket; the single placings are kept */
@@ -165,6 +211,7 @@ void check_map(const struct table *t)
     check_sizes(&before, t);
     check_places(&before, t);
     check_lists(&before, t);
+    check_capacity(&before, t);
     maps++;
 }
 
@@ -255,6 +302,8 @@ void check_growth(const struct table *old, const struct table *grown, uint32_t m
               grown->header.interval_count, last.refusal);
     if (least != moved)
         fault("moved: least, archive", least, moved, 0);
+    if (grown->header.capacity != old->header.capacity)
+        fault("capacity: old, grown", old->header.capacity, grown->header.capacity, 0);
     if (grown->header.buckets > DIRECTORY_BUCKETS)
         return;
     read_directory(&before, old);
@@ -266,14 +315,35 @@ void check_growth(const struct table *old, const struct table *grown, uint32_t m
     check_sizes(&after, grown);
     check_places(&after, grown);
     check_lists(&after, grown);
+    check_capacity(&after, grown);
     growths++;
+}
+
+void check_overfull(const struct table *old, uint32_t buckets, uint32_t bins)
+{
+    static int due[DIRECTORY_BUCKETS];
+    uint32_t largest = 0;
+    struct irr_relocations_reply r = irr_relocations(TABLE(old), buckets, bins, 0, NULL, 0);
+    if (r.refusal != IRR_BIN_OVERFULL || r.written != 0 || r.total != 0)
+        fault("irr_relocations of an overfull map: buckets, bins, refusal", buckets, bins,
+              r.refusal);
+    overfull_seen++;
+    if (buckets > DIRECTORY_BUCKETS)
+        return;
+    directory_due((int)buckets, (int)bins, due);
+    for (uint32_t y = 0; y < bins; y++)
+        if ((uint32_t)due[y] > largest)
+            largest = (uint32_t)due[y];
+    if (largest <= old->header.capacity)
+        fault("refused by 31: buckets, bins, largest bin", buckets, bins, largest);
 }
 
 void buckets_summary(void)
 {
     printf("directory: %" PRIu64 " growths with %" PRIu64 " rows, %" PRIu64 " other maps, %" PRIu64
-           " buckets placed and found, %" PRIu64 " lists of buckets\n",
-           growths, rows_seen, maps, places, lists);
-    if (growths == 0 || rows_seen == 0 || maps == 0)
+           " buckets placed and found, %" PRIu64 " lists of buckets, %" PRIu64
+           " growths that overfill a bin\n",
+           growths, rows_seen, maps, places, lists, overfull_seen);
+    if (growths == 0 || rows_seen == 0 || maps == 0 || overfull_seen == 0)
         fault("the directory was never compared", (uint32_t)growths, (uint32_t)rows_seen, 0);
 }

@@ -9,7 +9,11 @@
  * the map, all of it is compared, bucket by bucket. */
 void check_growth(const struct table *old, const struct table *grown, uint32_t moved);
 
-/* A sound table: every bucket, bin and position, and lists of buckets. */
+/* A growth of `old` that the archive refused by 31: some bin would be due more than the capacity,
+ * and the move list is refused too. */
+void check_overfull(const struct table *old, uint32_t buckets, uint32_t bins);
+
+/* A sound table: every bucket, bin and position, lists of buckets, and the least capacity. */
 void check_map(const struct table *t);
 
 /* prints what was compared */

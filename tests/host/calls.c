@@ -21,16 +21,16 @@ static const char *const names[CALLS] = {"irr_initial",  "irr_expand", "irr_relo
 
 /* the refusals that each call can answer; 0 is an accepted call */
 static const signed char possible[CALLS][REFUSALS] = {
-    {0, 21, 1, 2, -1},
-    {0, 21, 11, 12, 13, 14, 15, 16, 1, 2, 3, 4, 5, 8, -1},
-    {0, 11, 12, 13, 14, 15, 16, 1, 2, 3, 4, 5, 9, -1},
-    {0, 11, 12, 13, 14, 15, 16, 6, -1},
-    {0, 33, 11, 12, 13, 14, 15, 16, 32, 6, -1},
-    {0, 11, 12, 13, 14, 15, 16, 7, -1},
-    {0, 11, 12, 13, 14, 15, 16, 7, -1},
+    {0, 21, 30, 1, 2, 31, -1},
+    {0, 21, 11, 12, 13, 14, 15, 16, 30, 1, 2, 3, 4, 5, 31, 8, -1},
+    {0, 11, 12, 13, 14, 15, 16, 30, 1, 2, 3, 4, 5, 31, 9, -1},
+    {0, 11, 12, 13, 14, 15, 16, 30, 6, -1},
+    {0, 33, 11, 12, 13, 14, 15, 16, 30, 32, 6, -1},
+    {0, 11, 12, 13, 14, 15, 16, 30, 7, -1},
+    {0, 11, 12, 13, 14, 15, 16, 30, 7, -1},
     {0, 9, -1},
-    {0, 11, 12, 13, 14, 15, 16, 21, -1},
-    {0, 21, 11, 12, 13, 14, 15, -1},
+    {0, 11, 12, 13, 14, 15, 16, 30, 21, -1},
+    {0, 21, 11, 12, 13, 14, 15, 30, -1},
 };
 
 static struct lent in[4], out[4], list, more;
@@ -192,8 +192,8 @@ static void show(enum call call, const struct table *t, const uint32_t *asked, c
     for (int i = 0; i < 3; i++)
         printf(" %" PRIu32, asked[i]);
     if (t != NULL)
-        printf("; header %" PRIu32 " %" PRIu32 " %" PRIu32, t->header.buckets,
-               t->header.block_count, t->header.interval_count);
+        printf("; header %" PRIu32 " %" PRIu32 " %" PRIu32 " %" PRIu32, t->header.buckets,
+               t->header.capacity, t->header.block_count, t->header.interval_count);
     printf("; archive");
     for (size_t i = 0; i < n; i++)
         printf(" %" PRIu32, got[i]);
@@ -207,7 +207,7 @@ static void show(enum call call, const struct table *t, const uint32_t *asked, c
 static uint32_t judge(enum call call, const struct table *t, const uint32_t *asked,
                       const void *reply, const void *expected, size_t size)
 {
-    uint32_t got[5], want[5];
+    uint32_t got[6], want[6];
     int room = call == INITIAL || call == EXPAND || call == LOAD;
     int extra = call == RELOCATIONS || call == PLACES || call == SAVE || call == LOAD;
     const char *memory = difference(t != NULL, room, call == PLACES, extra);
@@ -225,13 +225,13 @@ static uint32_t judge(enum call call, const struct table *t, const uint32_t *ask
 
 /* THE TEN CALLS */
 
-uint32_t compare_initial(uint32_t buckets, uint32_t bins, struct table *to)
+uint32_t compare_initial(uint32_t buckets, uint32_t bins, uint32_t capacity, struct table *to)
 {
     lend_room();
     current = INITIAL;
-    struct irr_table_reply got = irr_initial(buckets, bins, FOUR(out, ARCHIVE));
-    struct irr_table_reply want = ref_initial(buckets, bins, FOUR(out, REFERENCE));
-    if (JUDGE(INITIAL, NULL, buckets, bins, 0) == 0)
+    struct irr_table_reply got = irr_initial(buckets, bins, capacity, FOUR(out, ARCHIVE));
+    struct irr_table_reply want = ref_initial(buckets, bins, capacity, FOUR(out, REFERENCE));
+    if (JUDGE(INITIAL, NULL, buckets, bins, capacity) == 0)
         take_table(got.header, to);
     return got.refusal;
 }
@@ -326,15 +326,15 @@ uint32_t compare_save(const struct table *t, size_t buffer_len)
     return JUDGE(SAVE, t, (uint32_t)buffer_len, 0, 0);
 }
 
-uint32_t compare_load(const uint8_t *file, size_t length, struct table *to)
+uint32_t compare_load(const uint8_t *file, size_t length, uint32_t capacity, struct table *to)
 {
     lent_junk(&more, length);
     lent_put(&more, file, length);
     lend_room();
     current = LOAD;
-    struct irr_load_reply got = irr_load(BYTES(&more, ARCHIVE), FOUR(out, ARCHIVE));
-    struct irr_load_reply want = ref_load(BYTES(&more, REFERENCE), FOUR(out, REFERENCE));
-    if (JUDGE(LOAD, NULL, (uint32_t)length, 0, 0) == 0)
+    struct irr_load_reply got = irr_load(BYTES(&more, ARCHIVE), capacity, FOUR(out, ARCHIVE));
+    struct irr_load_reply want = ref_load(BYTES(&more, REFERENCE), capacity, FOUR(out, REFERENCE));
+    if (JUDGE(LOAD, NULL, (uint32_t)length, capacity, 0) == 0)
         take_table(got.header, to);
     return got.refusal;
 }

@@ -22,7 +22,7 @@ int faults(void);
 
 /* Each of these answers the archive's refusal; a table that it wrote goes to `to`. The arrays that
  * they lend are mostly as long as the call asks for or longer, and at times too short. */
-uint32_t compare_initial(uint32_t buckets, uint32_t bins, struct table *to);
+uint32_t compare_initial(uint32_t buckets, uint32_t bins, uint32_t capacity, struct table *to);
 uint32_t compare_expand(const struct table *t, uint32_t buckets, uint32_t bins, struct table *to,
                         uint32_t *moved);
 uint32_t compare_relocations(const struct table *t, uint32_t buckets, uint32_t bins,
@@ -34,7 +34,7 @@ uint32_t compare_find(const struct table *t, uint32_t bin, uint32_t position);
 uint32_t compare_bin_size(const struct table *t, uint32_t bin);
 uint32_t compare_room(uint32_t expansions);
 uint32_t compare_save(const struct table *t, size_t buffer_len);
-uint32_t compare_load(const uint8_t *bytes, size_t length, struct table *to);
+uint32_t compare_load(const uint8_t *bytes, size_t length, uint32_t capacity, struct table *to);
 
 /* whether, from now on, no array that is lent is too short */
 void calls_lend_enough(int enough);

@@ -24,13 +24,16 @@ enum {
 
 static struct table one, two;
 
-/* a fresh map of at most the given sizes; sets t */
-static void fresh(struct table *t, uint32_t buckets, uint32_t bins)
+/* a fresh map of at most the given sizes, and of the given capacity, or, where that is 0, of any
+ * that the map allows; sets t */
+static void fresh(struct table *t, uint32_t buckets, uint32_t bins, uint32_t capacity)
 {
     uint32_t b = 1 + below(buckets), n = 1 + below(b < bins ? b : bins);
+    if (capacity == 0)
+        capacity = capacity_for(b, n);
     calls_lend_enough(1);
-    if (compare_initial(b, n, t) != 0)
-        fault("a fresh map refused", b, n, 0);
+    if (compare_initial(b, n, capacity, t) != 0)
+        fault("a fresh map refused", b, n, capacity);
     calls_lend_enough(0);
 }
 
@@ -44,6 +47,8 @@ static uint32_t step(struct table **t, struct table **other, uint32_t buckets, u
         *other = *t;
         *t = grown;
     }
+    if (refusal == IRR_BIN_OVERFULL)
+        check_overfull(*t, buckets, bins);
     return refusal;
 }
 
@@ -51,7 +56,7 @@ static void small_history(void)
 {
     struct table *t = &one, *other = &two;
     uint32_t buckets = 1 + below(once_in(3) ? 300 : 40), growths = 1 + below(12);
-    fresh(t, buckets, once_in(2) ? 4 : buckets);
+    fresh(t, buckets, once_in(2) ? 4 : buckets, 0);
     for (uint32_t g = 0; g < growths; g++) {
         uint32_t b, n;
         ask_growth(t, &b, &n);
@@ -79,7 +84,7 @@ static void large_history(void)
 {
     struct table *t = &one, *other = &two;
     uint32_t most = 1 + below(IRR_MAX_BUCKETS);
-    fresh(t, most, 1 + below(once_in(2) ? IRR_MAX_BINS : 100));
+    fresh(t, most, 1 + below(once_in(2) ? IRR_MAX_BINS : 100), 0);
     for (int g = 0; g < 12; g++) {
         uint32_t b, n;
         ask_growth(t, &b, &n);
@@ -115,7 +120,7 @@ static void long_history(uint32_t blocks)
 {
     struct table *t = &one, *other = &two;
     uint32_t coarse = 1 + below(3), refused = 0;
-    fresh(t, once_in(2) ? 2000 : 1000000, 3);
+    fresh(t, once_in(2) ? 2000 : 1000000, 3, IRR_MAX_CAPACITY);
     for (int g = 0; g < 400 && refused < 6; g++) {
         uint32_t b = t->header.buckets, n = table_bins(t), wide = t->header.block_count < blocks;
         if (wide)
@@ -128,6 +133,9 @@ static void long_history(uint32_t blocks)
     }
     round_of_calls(t, 150);
     round_of_files(t, 10);
+    /* the same of a capacity that may leave no room: 31 comes before 8 */
+    t->header.capacity = capacity_for(t->header.buckets, table_bins(t));
+    round_of_calls(t, 50);
 }
 
 static void damaged_table(void)

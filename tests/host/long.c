@@ -74,7 +74,7 @@ int main(void)
         printf("skipped: no address space for arrays of more than 2^32 entries\n");
         return SKIPPED;
     }
-    struct irr_table_reply made = irr_initial(10, 2, FOUR(huge));
+    struct irr_table_reply made = irr_initial(10, 2, 5, FOUR(huge));
     want("irr_initial, refusal", made.refusal, 0);
     struct irr_header h = made.header;
     want("irr_place, refusal", irr_place(h, FOUR(huge), 7).refusal, 0);
@@ -87,9 +87,9 @@ int main(void)
     check_lists(h);
     struct irr_save_reply saved = irr_save(h, FOUR(huge), memory[4], huge);
     want("irr_save, length", saved.length, 24);
-    want("irr_load of 2^32 bytes too many", irr_load(memory[4], huge + 24, FOUR(huge)).refusal,
+    want("irr_load of 2^32 bytes too many", irr_load(memory[4], huge + 24, 5, FOUR(huge)).refusal,
          IRR_WRONG_COUNT);
-    want("irr_load", irr_load(memory[4], 24, FOUR(huge)).refusal, 0);
+    want("irr_load", irr_load(memory[4], 24, 5, FOUR(huge)).refusal, 0);
     printf("lengths above 2^32: %d faults\n", faults);
     return faults != 0;
 }

@@ -1,8 +1,10 @@
-/* The ten calls written from document 01, simple rather than fast; arithmetic is in int64_t. */
+/* The ten calls written from documents 01 and 02, simple rather than fast; arithmetic is in
+ * int64_t. */
 #include "reference.h"
 
 enum {
     MOST_BUCKETS = 1000000000,
+    MOST_POSITIONS = 1000000000,
     MOST_BINS = 65535,
     MOST_BLOCKS = 65,
     MOST_INTERVALS = 2081,
@@ -12,7 +14,7 @@ enum {
 
 /* A lent table as it came. */
 struct view {
-    int64_t buckets, block_count, interval_count;
+    int64_t buckets, capacity, block_count, interval_count;
     const uint32_t *tops, *ends, *blocks, *adjustments;
     size_t tops_len, ends_len, blocks_len, adjustments_len;
 };
@@ -23,15 +25,16 @@ struct span {
 };
 
 struct map {
-    int64_t buckets, block_count, interval_count;
+    int64_t buckets, capacity, block_count, interval_count;
     uint32_t tops[MOST_BLOCKS + 1];
     struct span spans[MOST_GROWN];
 };
 
 static struct view view_of(struct irr_header header, REF_TABLE)
 {
-    struct view v = {header.buckets, header.block_count, header.interval_count, tops, ends, blocks,
-                     adjustments, tops_len, ends_len, blocks_len, adjustments_len};
+    struct view v = {header.buckets, header.capacity, header.block_count, header.interval_count,
+                     tops, ends, blocks, adjustments,
+                     tops_len, ends_len, blocks_len, adjustments_len};
     return v;
 }
 #define VIEW \
@@ -53,7 +56,7 @@ int64_t ref_due_of_block(int64_t buckets, int64_t bins, const uint32_t *tops, in
     return sum;
 }
 
-/* RULES 11 TO 16 */
+/* RULES 11 TO 16, AND 30 */
 
 static int outside(int64_t x, int64_t limit)
 {
@@ -106,17 +109,22 @@ static int64_t length_of(const struct view *v, int64_t i)
     return (int64_t)v->ends[i] - (i == 0 ? 0 : (int64_t)v->ends[i - 1]);
 }
 
+/* the buckets that the intervals of block j hold */
+static int64_t holding(const struct view *v, int64_t j)
+{
+    int64_t held = 0;
+    for (int64_t i = 0; i < v->interval_count; i++)
+        if ((int64_t)v->blocks[i] == j)
+            held += length_of(v, i);
+    return held;
+}
+
 static int holdings_wrong(const struct view *v)
 {
     int64_t bins = v->tops[v->block_count - 1];
-    for (int64_t j = 0; j < v->block_count; j++) {
-        int64_t held = 0;
-        for (int64_t i = 0; i < v->interval_count; i++)
-            if ((int64_t)v->blocks[i] == j)
-                held += length_of(v, i);
-        if (held != ref_due_of_block(v->buckets, bins, v->tops, j))
+    for (int64_t j = 0; j < v->block_count; j++)
+        if (holding(v, j) != ref_due_of_block(v->buckets, bins, v->tops, j))
             return 1;
-    }
     return 0;
 }
 
@@ -144,6 +152,26 @@ static int adjustments_wrong(const struct view *v)
     return 0;
 }
 
+/* the ranks below `held` that fall to number `turn` of d bins */
+static int64_t share(int64_t held, int64_t d, int64_t turn)
+{
+    return held <= turn ? 0 : (held - turn - 1) / d + 1;
+}
+
+/* whether P is outside its limits, or some bin holds more than P */
+static int capacity_wrong(const struct view *v)
+{
+    if (outside(v->capacity, MOST_POSITIONS))
+        return 1;
+    for (int64_t j = 0; j < v->block_count; j++) {
+        int64_t d = v->tops[j] - (j == 0 ? 0 : v->tops[j - 1]), held = holding(v, j);
+        for (int64_t turn = 0; turn < d; turn++)
+            if (share(held, d, turn) > v->capacity)
+                return 1;
+    }
+    return 0;
+}
+
 /* 12 to 15, which tables and files share */
 static uint32_t shared_refusal(const struct view *v)
 {
@@ -163,12 +191,15 @@ static uint32_t table_refusal(const struct view *v)
     uint32_t refusal = shared_refusal(v);
     if (refusal != 0)
         return refusal;
-    return adjustments_wrong(v) ? 16 : 0;
+    if (adjustments_wrong(v))
+        return 16;
+    return capacity_wrong(v) ? 30 : 0;
 }
 
 static void read_map(const struct view *v, struct map *m)
 {
     m->buckets = v->buckets;
+    m->capacity = v->capacity;
     m->block_count = v->block_count;
     m->interval_count = v->interval_count;
     for (int64_t j = 0; j < v->block_count; j++)
@@ -230,9 +261,8 @@ static int64_t block_of_bin(const struct map *m, int64_t y)
 /* the buckets in bin y: the ranks below its block's holding that fall to it */
 static int64_t size_of_bin(const struct map *m, int64_t y)
 {
-    int64_t j = block_of_bin(m, y), d = bins_of(m, j), held = held_by(m, j);
-    int64_t turn = y - first_bin(m, j);
-    return held <= turn ? 0 : (held - turn - 1) / d + 1;
+    int64_t j = block_of_bin(m, y);
+    return share(held_by(m, j), bins_of(m, j), y - first_bin(m, j));
 }
 
 /* A GROWTH */
@@ -303,6 +333,7 @@ static void grow(const struct map *old, int64_t buckets, int64_t bins, struct ma
     int64_t dues[MOST_BLOCKS + 1];
     int less = 0;
     m->buckets = buckets;
+    m->capacity = old->capacity;
     m->interval_count = 0;
     m->block_count = old->block_count;
     for (int64_t j = 0; j < old->block_count; j++)
@@ -403,6 +434,25 @@ static uint32_t size_refusal(int64_t buckets, int64_t bins)
     return bins > buckets ? 2 : 0;
 }
 
+/* whether some bin of a map of these sizes is due more than the capacity */
+static int overfills(int64_t capacity, int64_t buckets, int64_t bins)
+{
+    for (int64_t y = 0; y < bins; y++)
+        if (due(buckets, bins, y) > capacity)
+            return 1;
+    return 0;
+}
+
+static uint32_t fresh_refusal(int64_t buckets, int64_t bins, int64_t capacity)
+{
+    if (outside(capacity, MOST_POSITIONS))
+        return 30;
+    uint32_t refusal = size_refusal(buckets, bins);
+    if (refusal != 0)
+        return refusal;
+    return overfills(capacity, buckets, bins) ? 31 : 0;
+}
+
 static uint32_t growth_refusal(const struct map *old, int64_t buckets, int64_t bins)
 {
     uint32_t refusal = size_refusal(buckets, bins);
@@ -414,7 +464,7 @@ static uint32_t growth_refusal(const struct map *old, int64_t buckets, int64_t b
         return 4;
     if (bins > bins_in(old) && old->block_count == MOST_BLOCKS)
         return 5;
-    return 0;
+    return overfills(old->capacity, buckets, bins) ? 31 : 0;
 }
 
 static int room_short(size_t tops, size_t ends, size_t blocks, size_t adjustments)
@@ -426,7 +476,7 @@ static int room_short(size_t tops, size_t ends, size_t blocks, size_t adjustment
 
 static struct irr_header header_of(const struct map *m)
 {
-    struct irr_header h = {(uint32_t)m->buckets, (uint32_t)m->block_count,
+    struct irr_header h = {(uint32_t)m->buckets, (uint32_t)m->capacity, (uint32_t)m->block_count,
                            (uint32_t)m->interval_count};
     return h;
 }
@@ -447,10 +497,10 @@ static void write_map(const struct map *m, uint32_t *tops, uint32_t *ends, uint3
 
 static struct map before, after;
 
-struct irr_table_reply ref_initial(uint32_t buckets, uint32_t bins, REF_ROOM)
+struct irr_table_reply ref_initial(uint32_t buckets, uint32_t bins, uint32_t capacity, REF_ROOM)
 {
-    struct irr_table_reply reply = {0, 0, {0, 0, 0}};
-    reply.refusal = ROOM_SHORT ? 21 : size_refusal(buckets, bins);
+    struct irr_table_reply reply = {0, 0, {0, 0, 0, 0}};
+    reply.refusal = ROOM_SHORT ? 21 : fresh_refusal(buckets, bins, capacity);
     if (reply.refusal != 0)
         return reply;
     new_tops[0] = bins;
@@ -458,6 +508,7 @@ struct irr_table_reply ref_initial(uint32_t buckets, uint32_t bins, REF_ROOM)
     new_blocks[0] = 0;
     new_adjustments[0] = 0;
     reply.header.buckets = buckets;
+    reply.header.capacity = capacity;
     reply.header.block_count = 1;
     reply.header.interval_count = 1;
     return reply;
@@ -466,7 +517,7 @@ struct irr_table_reply ref_initial(uint32_t buckets, uint32_t bins, REF_ROOM)
 struct irr_table_reply ref_expand(struct irr_header header, REF_TABLE, uint32_t buckets,
                                   uint32_t bins, REF_ROOM)
 {
-    struct irr_table_reply reply = {0, 0, {0, 0, 0}};
+    struct irr_table_reply reply = {0, 0, {0, 0, 0, 0}};
     struct view v = VIEW;
     reply.refusal = ROOM_SHORT ? 21 : table_refusal(&v);
     if (reply.refusal != 0)
@@ -663,7 +714,7 @@ struct irr_save_reply ref_save(struct irr_header header, REF_TABLE, uint8_t *buf
 static uint32_t read_file(const uint8_t *bytes, size_t bytes_len, struct view *v)
 {
     static uint32_t tops[MOST_BLOCKS], ends[MOST_INTERVALS], blocks[MOST_INTERVALS];
-    struct view file = {0, 0, 0, tops, ends, blocks, NULL, 0, 0, 0, 0};
+    struct view file = {0, 0, 0, 0, tops, ends, blocks, NULL, 0, 0, 0, 0};
     if (bytes_len < 12)
         return 11;
     file.buckets = number_at(bytes, 0);
@@ -682,17 +733,24 @@ static uint32_t read_file(const uint8_t *bytes, size_t bytes_len, struct view *v
     return 0;
 }
 
-static uint32_t file_refusal(const uint8_t *bytes, size_t bytes_len, struct view *v)
+static uint32_t file_refusal(const uint8_t *bytes, size_t bytes_len, uint32_t capacity,
+                             struct view *v)
 {
-    return read_file(bytes, bytes_len, v) != 0 ? 11 : shared_refusal(v);
+    if (read_file(bytes, bytes_len, v) != 0)
+        return 11;
+    uint32_t refusal = shared_refusal(v);
+    if (refusal != 0)
+        return refusal;
+    v->capacity = capacity;
+    return capacity_wrong(v) ? 30 : 0;
 }
 
-struct irr_load_reply ref_load(const uint8_t *bytes, size_t bytes_len, REF_ROOM)
+struct irr_load_reply ref_load(const uint8_t *bytes, size_t bytes_len, uint32_t capacity, REF_ROOM)
 {
-    struct irr_load_reply reply = {0, {0, 0, 0}};
+    struct irr_load_reply reply = {0, {0, 0, 0, 0}};
     struct view v;
     int64_t adjustment[MOST_INTERVALS];
-    reply.refusal = ROOM_SHORT ? 21 : file_refusal(bytes, bytes_len, &v);
+    reply.refusal = ROOM_SHORT ? 21 : file_refusal(bytes, bytes_len, capacity, &v);
     if (reply.refusal != 0)
         return reply;
     work_out_adjustments(&v, adjustment);
@@ -704,6 +762,7 @@ struct irr_load_reply ref_load(const uint8_t *bytes, size_t bytes_len, REF_ROOM)
         new_adjustments[i] = (uint32_t)adjustment[i];
     }
     reply.header.buckets = (uint32_t)v.buckets;
+    reply.header.capacity = (uint32_t)v.capacity;
     reply.header.block_count = (uint32_t)v.block_count;
     reply.header.interval_count = (uint32_t)v.interval_count;
     return reply;

@@ -1,4 +1,5 @@
-/* The ten calls written from document 01, plainly: each ref_ call answers what irr_ should. */
+/* The ten calls written from documents 01 and 02, plainly: each ref_ call answers what irr_
+ * should. */
 #ifndef REFERENCE_H
 #define REFERENCE_H
 
@@ -14,7 +15,7 @@
         uint32_t *new_blocks, size_t new_blocks_len, uint32_t *new_adjustments, \
         size_t new_adjustments_len
 
-struct irr_table_reply ref_initial(uint32_t buckets, uint32_t bins, REF_ROOM);
+struct irr_table_reply ref_initial(uint32_t buckets, uint32_t bins, uint32_t capacity, REF_ROOM);
 struct irr_table_reply ref_expand(struct irr_header header, REF_TABLE, uint32_t buckets,
                                   uint32_t bins, REF_ROOM);
 struct irr_relocations_reply ref_relocations(struct irr_header header, REF_TABLE, uint32_t buckets,
@@ -29,7 +30,8 @@ struct irr_bin_size_reply ref_bin_size(struct irr_header header, REF_TABLE, uint
 struct irr_room_reply ref_room(uint32_t expansions);
 struct irr_save_reply ref_save(struct irr_header header, REF_TABLE, uint8_t *buffer,
                                size_t buffer_len);
-struct irr_load_reply ref_load(const uint8_t *bytes, size_t bytes_len, REF_ROOM);
+struct irr_load_reply ref_load(const uint8_t *bytes, size_t bytes_len, uint32_t capacity,
+                               REF_ROOM);
 
 /* what block j of the given tops is due in a map of `buckets` in `bins`: the sum over its bins */
 int64_t ref_due_of_block(int64_t buckets, int64_t bins, const uint32_t *tops, int64_t j);

@@ -249,7 +249,7 @@ void round_of_files(const struct table *t, int times)
         if (once_in(40))
             for (size_t b = 0; b < left; b++)
                 bytes[b] = (uint8_t)below(256);
-        compare_load(bytes, left, &spare);
+        compare_load(bytes, left, capacity_near(t->header.buckets, table_bins(t)), &spare);
     }
 }
 
@@ -264,6 +264,6 @@ void round_of_sizes(void)
     any = (uint32_t)random_next();
     uint32_t bins = ONE_OF(0, 1, 2, b - 1, b, b + 1, n, IRR_MAX_BINS, IRR_MAX_BINS + 1, UINT32_MAX,
                            any);
-    compare_initial(buckets, bins, &spare);
+    compare_initial(buckets, bins, capacity_near(buckets, bins), &spare);
     compare_room(ONE_OF(m, m, m, 63, 64, 65, 66, UINT32_MAX, any));
 }

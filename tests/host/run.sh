@@ -1,5 +1,5 @@
 #!/bin/sh
-# The host tests: the header alone in C and C++, the symbols of the archive, the example, abi, long and compare; the
+# The host tests: the header alone in C and C++, the symbols of the archive, the example, abi, capacity, long and compare; the
 # programs a second time under the sanitizers of addresses and of undefined behaviour, which see the tests' code and not the
 # archive's. Takes ARCHIVE, OUT, CC, CXX, CPPFLAGS, CFLAGS, LDFLAGS and LDLIBS from the environment. The status is 0 if none failed.
 set -u
@@ -79,11 +79,13 @@ try "no state" stateless
 COMPARE='compare rounds buckets calls tables lent random reference directory'
 try "example" example ""
 try "abi" host abi "" abi
+try "capacity" host capacity "" capacity
 try "long" host long "" long
 # shellcheck disable=SC2086
 try "compare" host compare "" $COMPARE
 try "example, sanitized" sanitized example "$SANITIZE"
 try "abi, sanitized" sanitized host abi "$SANITIZE" abi
+try "capacity, sanitized" sanitized host capacity "$SANITIZE" capacity
 try "long, sanitized" sanitized host long "$SANITIZE" long
 # shellcheck disable=SC2086
 try "compare, sanitized" sanitized host compare "$SANITIZE" $COMPARE

@@ -22,6 +22,43 @@ uint32_t table_bins(const struct table *t)
     return t->tops_len == 0 ? 0 : t->tops[t->tops_len - 1];
 }
 
+/* CAPACITIES */
+
+uint32_t largest_bin(uint32_t buckets, uint32_t bins)
+{
+    return bins == 0 ? 0 : buckets / bins + (buckets % bins > 0);
+}
+
+uint32_t capacity_for(uint32_t buckets, uint32_t bins)
+{
+    uint32_t least = largest_bin(buckets, bins), more = below(3);
+    switch (below(5)) {
+    case 0: more = 0; break;
+    case 1: break;
+    case 2: more = below(least + 2); break;
+    default: more = below(IRR_MAX_CAPACITY);
+    }
+    if (once_in(4) || least + more > IRR_MAX_CAPACITY)
+        return IRR_MAX_CAPACITY;
+    return least + more;
+}
+
+uint32_t capacity_near(uint32_t buckets, uint32_t bins)
+{
+    uint32_t least = largest_bin(buckets, bins);
+    switch (below(9)) {
+    case 0: return 0;
+    case 1: return least - 1;
+    case 2: return least;
+    case 3: return least + 1;
+    case 4: return below(least);
+    case 5: return IRR_MAX_CAPACITY;
+    case 6: return IRR_MAX_CAPACITY + 1;
+    case 7: return (uint32_t)random_next();
+    default: return capacity_for(buckets, bins);
+    }
+}
+
 /* SOUND TABLES */
 
 void table_adjust(struct table *t)
@@ -76,6 +113,7 @@ static void finish(struct table *t, uint32_t buckets)
 {
     table_adjust(t);
     t->header.buckets = buckets;
+    t->header.capacity = capacity_for(buckets, table_bins(t));
     t->header.block_count = t->tops_len;
     t->header.interval_count = t->intervals_len;
 }
@@ -127,12 +165,16 @@ static uint32_t near(uint32_t was, uint32_t limit)
 
 static void damage_header(struct table *t)
 {
-    switch (below(3)) {
+    switch (below(5)) {
     case 0:
         t->header.buckets = near(t->header.buckets, IRR_MAX_BUCKETS);
         break;
     case 1:
         t->header.block_count = near(t->header.block_count, IRR_MAX_BLOCKS);
+        break;
+    case 2:
+    case 3:
+        t->header.capacity = capacity_near(t->header.buckets, table_bins(t));
         break;
     default:
         t->header.interval_count = near(t->header.interval_count, IRR_MAX_INTERVALS);
@@ -217,23 +259,24 @@ static void damage_border(struct table *t)
 
 void table_damage(struct table *t)
 {
-    switch (below(7)) {
+    switch (below(8)) {
     case 0:
+    case 1:
         damage_header(t);
         break;
-    case 1:
+    case 2:
         damage_rise(t->tops, t->tops_len, once_in(2) ? IRR_MAX_BINS : t->header.buckets);
         break;
-    case 2:
+    case 3:
         damage_rise(t->ends, t->intervals_len, t->header.buckets);
         break;
-    case 3:
+    case 4:
         damage_blocks(t);
         break;
-    case 4:
+    case 5:
         damage_adjustments(t);
         break;
-    case 5:
+    case 6:
         damage_blocks(t);
         table_adjust(t);
         break;

@@ -20,6 +20,16 @@ void table_copy(struct table *to, const struct table *from);
 /* number of bins, or 0 where the table has no tops */
 uint32_t table_bins(const struct table *t);
 
+/* the number of buckets in the largest bin of a map of these sizes; 0 where there are no bins */
+uint32_t largest_bin(uint32_t buckets, uint32_t bins);
+
+/* a random capacity that such a map allows: the least one, little more, or any */
+uint32_t capacity_for(uint32_t buckets, uint32_t bins);
+
+/* any number for a capacity, mostly at or next to a limit: its own, or the largest bin of such a
+ * map */
+uint32_t capacity_near(uint32_t buckets, uint32_t bins);
+
 /* a random sound table, its intervals in any order of blocks; `most` bounds its blocks */
 void table_random(struct table *t, uint32_t buckets, uint32_t bins, uint32_t most);
 

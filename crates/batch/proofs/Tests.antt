@@ -1,4 +1,4 @@
--- Laws of the tests of a list of buckets, in a sound table t. Assumes nothing.
+-- Laws of the tests of a list of buckets, in a formed table t. Assumes nothing.
 use Prim.Native.Nat.{ℕ, _+_, _-_, _≤_, _<_}
 use mathlib.Core.Path.{_≡_, refl, sym, _∙_}
 use mathlib.Core.Bool.{true, false}

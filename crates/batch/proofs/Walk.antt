@@ -1,4 +1,4 @@
--- Laws of the walk of a sound table's intervals for a list of buckets that does not fall. Assumes nothing.
+-- Laws of the walk of a formed table's intervals for a list of buckets that does not fall. Assumes nothing.
 use Prim.Native.Nat.{ℕ, _+_, _-_, _*_, _^_, _≤_, _<_}
 use mathlib.Core.Path.{_≡_, refl, sym, _∙_, ap, ap₂, subst}
 use mathlib.Core.Bool.{false}
@@ -11,7 +11,7 @@ use Rattle.model.specs.Basics.{before, joined}
 use Rattle.model.specs.Table.{Arrays, table, over}
 use Rattle.model.specs.Place.{place, places}
 use Rattle.model.specs.Refusal.{falls}
-use Rattle.model.specs.Sound.{Sound}
+use Rattle.model.specs.Sound.{Formed}
 use Rattle.model.specs.declared.table.Header.{Header}
 use Rattle.model.proofs.Counts.{below-or}
 use Rattle.model.proofs.Batches.{falls-not}
@@ -35,12 +35,12 @@ pub record Walking (h : Header) (a : Arrays) (xs : List ℕ) (interval i : ℕ) 
   pub put : Put 0 (2 * i) (places (table h a) (take i xs)) old out
 
 module _
-    {h : Header} {a : Arrays} (xs : List ℕ) (sound : Sound h a)
+    {h : Header} {a : Arrays} (xs : List ℕ) (formed : Formed h a)
     (asked : (falls xs ≡ false) × ((i : ℕ) → i < length xs → getD xs i 0 < h .buckets)) where
   pub walking-starts : (old : List ℕ) → Walking h a xs 0 0 old old
   unfolding before places joined
   walking-starts old =
-      record { within = sound .someIntervals; on = omega arith; after = λ l. omega arith; put = put-none 0 old }
+      record { within = formed .someIntervals; on = omega arith; after = λ l. omega arith; put = put-none 0 old }
 
   pub walking-ends
       : {interval i : ℕ} {old out : List ℕ} → Walking h a xs interval i old out → length xs ≤ i → 2 * length xs ≤ length old
@@ -58,7 +58,7 @@ module _
         some = omega (arith, w .within);
         within = omega arith;
         from = w .after l;
-        to = rw last (omega (arith, sound .lastEnd, asked .1 i l));
+        to = rw last (omega (arith, formed .lastEnd, asked .1 i l));
       }
 
   -- bucket i lies in interval j
@@ -76,18 +76,18 @@ module _
           places =
               λ k b c.
               record {
-                some = omega (arith, ap (λ p. p .bins) e, sound .topsRise _ (sound .blocksBelow j found-within));
+                some = omega (arith, ap (λ p. p .bins) e, formed .topsRise _ (formed .blocksBelow j found-within));
                 fits = fits;
                 ranked =
                     omega (
                       arith,
                       ap (λ p. p .adjustment) e,
-                      adjustment-below h a sound j found-within,
+                      adjustment-below h a formed j found-within,
                       m .from,
                       falls-not xs (asked .0) i k b c,
                     );
               };
-          small = λ k c. omega (arith, asked .1 k c, sound .bucketLimit);
+          small = λ k c. omega (arith, asked .1 k c, formed .bucketLimit);
           divides = divides;
           room = room;
         }
@@ -111,7 +111,7 @@ module _
           let x = getD xs (i + k) 0 in
           let low : getD xs i 0 ≤ x = falls-not xs (asked .0) i (i + k) (omega arith) (omega (arith, w .within)) in
           let high : x < getD (a .ends) j 0 = w .below (i + k) (omega arith) (omega arith) in
-          let at = lent-place h a sound j x found-within (omega (arith, m .from, low)) high in
+          let at = lent-place h a formed j x found-within (omega (arith, m .from, low)) high in
           ap₂ (λ y q. y ∷ q ∷ []) (at .0) (at .1) ∙ ap (λ p. slotPair p x) (sym e)
 
       -- so they are the table's

@@ -1,10 +1,10 @@
-// The places of a list of buckets in a sound table: one walk of its intervals.
+// The places of a list of buckets in a formed table: one walk of its intervals.
 ghost use Prim.Native.Nat.{ℕ, _+_, _-_, _*_, _^_, _<_, _≤_};
 ghost use mathlib.Core.Path.{_≡_};
 ghost use mathlib.Core.Bool.{false};
 ghost use lib.ListN.{length, getD};
 ghost use lib.Seq.{sets};
-ghost use Rattle.model.specs.Lent.{LentSound, tableGiven};
+ghost use Rattle.model.specs.Lent.{LentFormed, tableGiven};
 ghost use Rattle.model.specs.Table.{over};
 ghost use Rattle.model.specs.Place.{places};
 ghost use Rattle.model.specs.Refusal.{first, falls as fallsIn};
@@ -174,7 +174,7 @@ fn write_places(
     buckets: &[u32],
     out: &mut [u32],
 )
-    requires { ⌜ LentSound h tops ends blocks adjustments ⌝ }
+    requires { ⌜ LentFormed h tops ends blocks adjustments ⌝ }
     requires { ⌜ (fallsIn (now buckets) ≡ false) × ((i : ℕ) → i < length (now buckets) → getD (now buckets) i 0 < h .buckets) ⌝ }
     requires { ⌜ 2 * length (now buckets) ≤ length (now out) ⌝ }
     ensures { λ _. ⌜ now (out .exit) ≡ over (places (tableGiven h tops ends blocks adjustments) (now (buckets .entry))) (now (out .entry)) ⌝ }
@@ -199,7 +199,7 @@ pub fn placed_each(
     buckets: &[u32],
     out: &mut [u32],
 ) -> u32
-    requires { ⌜ LentSound h tops ends blocks adjustments ⌝ }
+    requires { ⌜ LentFormed h tops ends blocks adjustments ⌝ }
     requires { ⌜ 2 * length (now buckets) ≤ length (now out) ⌝ }
     ensures { λ r. ⌜ r ≡ first (placesTests (tableGiven h tops ends blocks adjustments) (now (buckets .entry))) ⌝ }
     ensures { λ r.

@@ -36,15 +36,17 @@ use model::table::Header;
 pub extern "C" fn irr_initial(
     buckets: u32,
     bins: u32,
+    capacity: u32,
     tops: &mut [u32],
     ends: &mut [u32],
     blocks: &mut [u32],
     adjustments: &mut [u32],
 ) -> TableReply
-    ensures { λ r. ⌜ r ≡ initialReply (sizes buckets bins) (given tops ends blocks adjustments) ⌝ }
-    ensures { λ _. ⌜ left tops ends blocks adjustments ≡ initialArrays (sizes buckets bins) (given tops ends blocks adjustments) ⌝ }
+    ensures { λ r. ⌜ r ≡ initialReply (sizes buckets bins) capacity (given tops ends blocks adjustments) ⌝ }
+    ensures { λ _.
+        ⌜ left tops ends blocks adjustments ≡ initialArrays (sizes buckets bins) capacity (given tops ends blocks adjustments) ⌝ }
 {
-    irr::initial(buckets, bins, tops, ends, blocks, adjustments)
+    irr::initial(buckets, bins, capacity, tops, ends, blocks, adjustments)
 }
 
 #[no_mangle]
@@ -202,13 +204,14 @@ pub extern "C" fn irr_save(
 #[no_mangle]
 pub extern "C" fn irr_load(
     bytes: &[u8],
+    capacity: u32,
     tops: &mut [u32],
     ends: &mut [u32],
     blocks: &mut [u32],
     adjustments: &mut [u32],
 ) -> LoadReply
-    ensures { λ r. ⌜ r ≡ loadReply (now (bytes .entry)) (given tops ends blocks adjustments) ⌝ }
-    ensures { λ _. ⌜ left tops ends blocks adjustments ≡ loadArrays (now (bytes .entry)) (given tops ends blocks adjustments) ⌝ }
+    ensures { λ r. ⌜ r ≡ loadReply (now (bytes .entry)) capacity (given tops ends blocks adjustments) ⌝ }
+    ensures { λ _. ⌜ left tops ends blocks adjustments ≡ loadArrays (now (bytes .entry)) capacity (given tops ends blocks adjustments) ⌝ }
 {
-    irr::load(bytes, tops, ends, blocks, adjustments)
+    irr::load(bytes, capacity, tops, ends, blocks, adjustments)
 }

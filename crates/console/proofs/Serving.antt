@@ -9,7 +9,7 @@ use lib.ListN.{length}
 use lib.Seq.{sets}
 use Rattle.model.specs.Basics.{if_then_else_, joined}
 use Rattle.model.specs.Table.{Arrays, table}
-use Rattle.model.specs.Sound.{Sound}
+use Rattle.model.specs.Sound.{Formed}
 use Rattle.model.specs.Console.{text, read, movesOf, moveText, commandAnswer, answerText}
 use Rattle.model.proofs.Counts.{bit-cases}
 use Rattle.model.specs.declared.answer.Answer.{Answer}
@@ -140,11 +140,11 @@ module _ (k : Rack) (this other : Arrays) (q : ℕ) (right : Right (held k)) (e 
 
   pub grown-asked
       : q ≤ length (movesIn k)
-      → Sound (k .state .before) other × Growth (table (k .state .before) other) (sizesOf (k .state)) q
+      → Formed (k .state .before) other × Growth (table (k .state .before) other) (sizesOf (k .state)) q
   unfolding isGrown beforeOf
   grown-asked few =
       let g = right-here .grown (ap isGrown e) in
-      (g .sound, (g .asked, omega (arith, ap length rows-here)))
+      (g .sound .formed, (g .asked, omega (arith, ap length rows-here)))
 
   pub grown-listed
       : {buffer after old new : List ℕ} {r : Page}

@@ -9,7 +9,7 @@ ghost use mathlib.Core.Path.{_≡_};
 ghost use Prim.Native.Nat.{_+_, _*_, _≤_};
 ghost use lib.ListN.{length};
 ghost use lib.Seq.{sets};
-ghost use Rattle.model.specs.Lent.{LentSound, tableNow, tableGiven};
+ghost use Rattle.model.specs.Lent.{LentFormed, tableNow, tableGiven};
 ghost use Rattle.model.specs.Console.{moveText};
 ghost use Rattle.session.specs.Maps.{sizesOf};
 ghost use Rattle.console.specs.Rack.{rackNow, rackGiven, RackRight, movesIn};
@@ -51,7 +51,7 @@ fn page(
     rows: &mut [u32],
     out: &mut [u8],
 ) -> Page
-    requires { ⌜ LentSound (state .before) tops ends blocks adjustments × Room rows out ⌝ }
+    requires { ⌜ LentFormed (state .before) tops ends blocks adjustments × Room rows out ⌝ }
     requires { ⌜ Growth (tableNow (state .before) tops ends blocks adjustments) (sizesOf state) first ⌝ }
     ensures { λ r. ⌜ Lists (growthRows (tableGiven (state .before) tops ends blocks adjustments) (sizesOf state)) first rows out r ⌝ }
 {

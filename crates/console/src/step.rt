@@ -15,7 +15,7 @@ ghost use mathlib.Core.Path.{_≡_};
 ghost use Prim.Native.Nat.{_+_, _≤_};
 ghost use lib.ListN.{length};
 ghost use lib.Seq.{sets};
-ghost use Rattle.model.specs.Lent.{LentSound, tableGiven};
+ghost use Rattle.model.specs.Lent.{LentFormed, tableGiven};
 ghost use Rattle.print.specs.Numbers.{lineRoom};
 ghost use Rattle.session.specs.Maps.{shown, isList};
 ghost use Rattle.console.specs.Rack.{rackGiven, rackLeft, RackRight, Served, whereAnswer};
@@ -68,7 +68,7 @@ pub fn put_where(
     out: &mut [u8],
     at: usize,
 ) -> usize
-    requires { ⌜ (at + lineRoom ≤ length (now out)) × LentSound h tops ends blocks adjustments ⌝ }
+    requires { ⌜ (at + lineRoom ≤ length (now out)) × LentFormed h tops ends blocks adjustments ⌝ }
     ensures place { λ r. ⌜ r ≡ at + length (shown (whereAnswer (tableGiven h tops ends blocks adjustments) bucket)) ⌝ }
     ensures bytes { λ _. ⌜ now (out .exit) ≡ sets (now (out .entry)) at (shown (whereAnswer (tableGiven h tops ends blocks adjustments) bucket)) ⌝ }
 {

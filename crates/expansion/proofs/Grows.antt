@@ -33,7 +33,7 @@ grow-same t s out left z w e g =
     record { reply = e ∙ g .reply; least = λ q. ap (λ (r : TableReply). r .moved) e ∙ g .least q; lent = g .lent }
 
 module _ (t : Table) (s : Shape) (out : Arrays) (r : ℕ) (e : r ≡ first (growthTests t s)) where
-  -- refused by rules 1 to 5
+  -- refused by rules 1 to 5, or 31
   pub grow-refused : (r ≡ 0 → ⊥) → GrowReply t s out out (refusal r)
   unfolding tableReply arraysAfter
   grow-refused n =
@@ -57,19 +57,19 @@ module _ (t : Table) (s : Shape) (out : Arrays) (r : ℕ) (e : r ≡ first (grow
   -- accepted: a reply of the new table's numbers
   pub grow-accepted
       : (left : Arrays) (z : TableReply) → r ≡ 0 → intervalsFull t s ≡ false → z .refusal ≡ 0
-      → z .header .buckets ≡ s .buckets → z .header .«block_count» ≡ length (newTops t s)
+      → z .header .buckets ≡ s .buckets → z .header .capacity ≡ t .capacity → z .header .«block_count» ≡ length (newTops t s)
       → z .header .«interval_count» ≡ length (expanded t s .intervals)
       → z .moved ≡ moved t (expanded t s) → z .moved ≡ least (shape t) s
       → left ≡ written (expanded t s) out → GrowReply t s out left z
   unfolding tableReply arraysAfter first answer if_then_else_ header expanded
-  grow-accepted left z ok w accepted buckets blocks intervals count formula stored =
+  grow-accepted left z ok w accepted buckets capacity blocks intervals count formula stored =
       record {
         reply =
             rw (next ok, w)
             (λ i. record {
               refusal = accepted i;
               moved = count i;
-              header = record { buckets = buckets i; «block_count» = blocks i; «interval_count» = intervals i };
+              header = record { buckets = buckets i; capacity = capacity i; «block_count» = blocks i; «interval_count» = intervals i };
             });
         least = λ q. formula;
         lent = rw (next ok, w) stored;

@@ -1,4 +1,4 @@
--- What the second halves of calls answer, on a sound table t and sizes s asked for. Assumes nothing.
+-- What the second halves of calls answer, on a formed table t and sizes s asked for. Assumes nothing.
 use Prim.Native.Nat.{ℕ}
 use mathlib.Core.Path.{_≡_}
 use mathlib.Core.List.{List, [], _∷_, _++_}

@@ -1,7 +1,7 @@
-// A growth and its move list, of a table that is known to be sound.
+// A growth and its move list, of a table that is known to be formed.
 ghost use mathlib.Core.Bool.{false};
 ghost use mathlib.Core.Path.{_≡_};
-ghost use Rattle.model.specs.Lent.{LentSound, given, left, arraysNow, tableGiven};
+ghost use Rattle.model.specs.Lent.{LentFormed, given, left, arraysNow, tableGiven};
 ghost use Rattle.model.specs.Table.{sizes};
 ghost use Rattle.model.specs.Refusal.{roomShort};
 ghost use Rattle.expansion_count.specs.Given.{Grows};
@@ -18,7 +18,7 @@ struct Shares {
     dues: [u32; BLOCKS],
 }
 
-// A growth that rules 1 to 5 accept. `olds` and `dues` are what each block has, and is due after it; `falls` says that some old
+// A growth that rules 1 to 5 and 31 accept. `olds` and `dues` are what each block has, and is due after it; `falls` says that some old
 // block is due less, and `block_count` is the number of blocks after it.
 fn accepted<'a>(
     header: Header,
@@ -81,6 +81,7 @@ fn accepted<'a>(
         moved: growth.moved,
         header: Header {
             buckets,
+            capacity: header.capacity,
             block_count,
             interval_count: growth.intervals,
         },
@@ -101,7 +102,7 @@ pub fn grown(
     new_blocks: &mut [u32],
     new_adjustments: &mut [u32],
 ) -> TableReply
-    requires { ⌜ LentSound header tops ends blocks adjustments ⌝ }
+    requires { ⌜ LentFormed header tops ends blocks adjustments ⌝ }
     requires { ⌜ roomShort (arraysNow «new_tops» «new_ends» «new_blocks» «new_adjustments») ≡ false ⌝ }
     ensures { λ r.
         ⌜
@@ -163,15 +164,15 @@ pub fn relocated(
     first: u32,
     rows: &mut [u32],
 ) -> RelocationsReply
-    requires { ⌜ LentSound header tops ends blocks adjustments ⌝ }
+    requires { ⌜ LentFormed header tops ends blocks adjustments ⌝ }
     ensures { λ r.
         ⌜
         MovesReply (tableGiven header tops ends blocks adjustments) (sizes buckets bins) first (now (rows .entry)) (now (rows .exit)) r
         ⌝ }
 {
-    let wrong = expansion_plan::growth_refusal(header, tops, buckets, bins);
-    if wrong != 0 {
-        return refused_list(wrong);
+    let refusal = expansion_plan::growth_refusal(header, tops, buckets, bins);
+    if refusal != 0 {
+        return refused_list(refusal);
     }
     let total = relocations::relocation_count(header, tops, buckets, bins);
     if total < first {

@@ -14,7 +14,7 @@ use Rattle.model.specs.Limits.{maxIntervals}
 use Rattle.model.specs.Table.{Shape, Interval, interval, Table, Arrays, table}
 use Rattle.model.specs.Place.{blockOf, size}
 use Rattle.model.specs.Refusal.{first, intervalsFull}
-use Rattle.model.specs.Sound.{Sound}
+use Rattle.model.specs.Sound.{Formed}
 use Rattle.model.specs.Calls.{growthTests}
 use Rattle.model.specs.Expansion.{
   newTops,
@@ -37,7 +37,7 @@ use Rattle.model.specs.Expansion.{
 use Rattle.model.specs.declared.table.Header.{Header}
 use Rattle.model.proofs.Counts.{bit-lt, bit-ge, bit-eq, bit-ne, bit-le, bit-cases, below-or, sum-le, sum-add, sum-upper, sum-point}
 use Rattle.model.proofs.Listed.{equal-or, size-own, size-other, Told, Tells}
-use Rattle.model.proofs.Wells.{Well, sound-well, tops-length, intervals-length}
+use Rattle.model.proofs.Wells.{Well, formed-well, tops-length, intervals-length}
 use Rattle.model.proofs.Growths.{accepted, length-more, some-more}
 use Rattle.model.proofs.Drained.{plan-stay, plan-move, plan-split}
 use Rattle.model.proofs.Filled.{lastOf, pieces-last, pieces-none, pieces-one}
@@ -180,44 +180,44 @@ module _ (t : Table) (s : Shape) where
 
 -- where some old block is due less
 pub drained-most
-    : (h : Header) (a : Arrays) (s : Shape) → Sound h a
+    : (h : Header) (a : Arrays) (s : Shape) → Formed h a
     → length (drained (table h a) s) ≤ h .«interval_count» + h .«block_count» + 1
-drained-most h a s sound =
-    omega (arith, drained-few (table h a) s (sound-well h a sound), intervals-length h a sound, tops-length h a sound)
+drained-most h a s formed =
+    omega (arith, drained-few (table h a) s (formed-well h a formed), intervals-length h a formed, tops-length h a formed)
 
 -- where none is
 pub filled-most
-    : (h : Header) (a : Arrays) (s : Shape) → Sound h a
+    : (h : Header) (a : Arrays) (s : Shape) → Formed h a
     → length (filled (table h a) s) ≤ h .«interval_count» + length (newTops (table h a) s)
-filled-most h a s sound =
+filled-most h a s formed =
     let t = table h a in
-    omega (arith, filled-length h a s sound, pieces-few t s (length (newTops t s)) 0 (lengthTo t s))
+    omega (arith, filled-length h a s formed, pieces-few t s (length (newTops t s)) 0 (lengthTo t s))
 
 -- in either case
 pub expanded-few
-    : (h : Header) (a : Arrays) (s : Shape) → Sound h a → first (growthTests (table h a) s) ≡ 0
+    : (h : Header) (a : Arrays) (s : Shape) → Formed h a → first (growthTests (table h a) s) ≡ 0
     → length (expanded (table h a) s .intervals) ≤ h .«interval_count» + length (newTops (table h a) s)
-expanded-few h a s sound asked =
+expanded-few h a s formed asked =
     let t = table h a in
-    let w = sound-well h a sound in
+    let w = formed-well h a formed in
     let q = accepted t s asked in
     ⊎-elim
     (λ f.
     omega (
       arith,
-      drained-count h a s sound asked (f .0),
-      drained-most h a s sound,
-      tops-length h a sound,
+      drained-count h a s formed asked (f .0),
+      drained-most h a s formed,
+      tops-length h a formed,
       length-more t s w q (some-more t s w q (f .0)),
     ))
     (λ f.
-    omega (arith, ap (λ (u : Table). length (u .intervals)) (expanded-filled t s (f .0)), filled-most h a s sound))
+    omega (arith, ap (λ (u : Table). length (u .intervals)) (expanded-filled t s (f .0)), filled-most h a s formed))
     (bit-cases (someFall t s))
 
 -- so a table of few intervals and blocks needs no count
 pub few-fit
-    : (h : Header) (a : Arrays) (s : Shape) → Sound h a → first (growthTests (table h a) s) ≡ 0
+    : (h : Header) (a : Arrays) (s : Shape) → Formed h a → first (growthTests (table h a) s) ≡ 0
     → h .«interval_count» + length (newTops (table h a) s) ≤ maxIntervals → intervalsFull (table h a) s ≡ false
 unfolding intervalsFull
-few-fit h a s sound asked few =
-    le-ltb maxIntervals (length (expanded (table h a) s .intervals)) (omega (arith, expanded-few h a s sound asked))
+few-fit h a s formed asked few =
+    le-ltb maxIntervals (length (expanded (table h a) s .intervals)) (omega (arith, expanded-few h a s formed asked))

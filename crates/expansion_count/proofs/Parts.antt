@@ -9,7 +9,7 @@ use lib.ListN.{length, getD, length-append}
 use borrow.Author.Tests.{eq-eqb, ne-eqb, lt-ltb, le-ltb}
 use Rattle.model.specs.Basics.{if_then_else_}
 use Rattle.model.specs.Table.{Shape, Interval, interval, Table, Arrays, table}
-use Rattle.model.specs.Sound.{Sound}
+use Rattle.model.specs.Sound.{Formed}
 use Rattle.model.specs.Expansion.{lastBlock, lengthened, parts, extended, planFor, drained}
 use Rattle.model.specs.declared.plan.Action.the-variants.{Stay, Move, Split}
 use Rattle.model.specs.declared.plan.Plan.{Plan}
@@ -73,10 +73,10 @@ module _ (h : Header) (a : Arrays) (s : Shape) where
   unfolding toMake if_then_else_
   make-some i start w l = rw (lt-ltb i (h .«interval_count») l)
 
-  module _ (sound : Sound h a) where
+  module _ (formed : Formed h a) where
     -- all that the growth makes
     pub make-all : drained t s ≡ toMake 0 0 0
-    make-all = walked-drained h a s ∙ sym (make-some 0 0 0 (sound .someIntervals))
+    make-all = walked-drained h a s ∙ sym (make-some 0 0 0 (formed .someIntervals))
 
     -- no interval ends past B′ with the new buckets behind it
     pub behind-fits
@@ -84,8 +84,8 @@ module _ (h : Header) (a : Arrays) (s : Shape) where
         → getD (a .ends) i 0 + leftBehind h (s .buckets) i ≤ s .buckets
     behind-fits i l more =
         ⊎-elim
-        (λ n. omega (arith, behind-none h (s .buckets) i n, end-within h a sound i l))
-        (λ n. omega (arith, behind-all h (s .buckets) i n, end-within h a sound i l))
+        (λ n. omega (arith, behind-none h (s .buckets) i n, end-within h a formed i l))
+        (λ n. omega (arith, behind-all h (s .buckets) i n, end-within h a formed i l))
         (below-or (i + 1) (h .«interval_count»))
 
     -- what the plan for interval i makes of it comes first, with the m new buckets behind it
@@ -100,7 +100,7 @@ module _ (h : Header) (a : Arrays) (s : Shape) where
     made-first i start w l p e m q =
         let end = getD (a .ends) i 0 in
         let own = parts (p .action) (lentInterval a i) (length (t .tops)) [] in
-        let count = tops-length h a sound in
+        let count = tops-length h a formed in
         record {
           joined =
               make-some i start w l
@@ -115,7 +115,7 @@ module _ (h : Header) (a : Arrays) (s : Shape) where
               (λ n.
               walked-last h a s i start w l p e (omega arith)
               ∙ ap (λ b. extended (length (t .tops)) b (s .buckets - h .buckets) (p .moved) own)
-              (sym (end-last h a sound i (omega arith)))
+              (sym (end-last h a formed i (omega arith)))
               ∙ ap (made p (lentInterval a i) (length (t .tops))) (sym (q ∙ behind-all h (s .buckets) i n))
               ∙ sym (append-nil _)
               ∙ ap (λ is. made p (lentInterval a i) (length (t .tops)) m ++ is)
@@ -141,7 +141,7 @@ module _ (h : Header) (a : Arrays) (s : Shape) where
         → Making (n + k) (i + 1) (getD (a .ends) i 0) (p .moved)
     making-more n i start w m l p e k c =
         record {
-          walk = walk-next h a s i start w l p e sound (m .walk);
+          walk = walk-next h a s i start w l p e formed (m .walk);
           whole = omega (arith, m .whole, simp length-append at (ap length (made-first i start w l p e _ refl .joined)));
         }
 

@@ -14,7 +14,7 @@ use Rattle.model.specs.Expansion.{newTops, has, dueAfter, gain, pieces}
 use Rattle.model.specs.declared.table.Header.{Header}
 use Rattle.model.proofs.Counts.{below-or}
 use Rattle.model.proofs.Listed.{equal-or}
-use Rattle.model.proofs.Wells.{Well, sound-well, tops-length}
+use Rattle.model.proofs.Wells.{Well, formed-well, tops-length}
 use Rattle.model.proofs.Growths.{Accepted, accepted, length-either, block-limits, none-falls}
 use Rattle.model.proofs.Filled.{lastOf, pieces-last, pieces-none, pieces-one}
 use Rattle.model.proofs.Steps.{pieces-length, has-most, last-lent}
@@ -81,7 +81,7 @@ module _ (t : Table) (s : Shape) (j : ℕ) where
 
 module _ (h : Header) (a : Arrays) (s : Shape) (olds dues : List ℕ) (f : Fills h a s olds dues) where
   pub fills-well : Well (table h a)
-  fills-well = sound-well h a (f .sound)
+  fills-well = formed-well h a (f .formed)
 
   pub fills-asked : Accepted (table h a) s
   fills-asked = accepted (table h a) s (f .asked)
@@ -102,11 +102,11 @@ module _ (h : Header) (a : Arrays) (s : Shape) (olds dues : List ℕ) (f : Fills
   -- the last interval's block is one of them
   pub last-below : (n : ℕ) → n ≡ length (newTops (table h a) s) → getD (a .blocks) (h .«interval_count» - 1) 0 < n
   last-below n e =
-      let some = f .sound .someIntervals in
-      let own = f .sound .blocksBelow (h .«interval_count» - 1) (omega arith) in
+      let some = f .formed .someIntervals in
+      let own = f .formed .blocksBelow (h .«interval_count» - 1) (omega arith) in
       ⊎-elim
-      (λ l. omega (arith, l .1, tops-length h a (f .sound)))
-      (λ l. omega (arith, l .1, tops-length h a (f .sound)))
+      (λ l. omega (arith, l .1, tops-length h a (f .formed)))
+      (λ l. omega (arith, l .1, tops-length h a (f .formed)))
       (length-either (table h a) s fills-well fills-asked)
 
   -- no block has more than the buckets up to where the pieces have come to
@@ -120,7 +120,7 @@ module _ (h : Header) (a : Arrays) (s : Shape) (olds dues : List ℕ) (f : Fills
 
   -- what the pieces are made from
   pub fills-shares : Shares (table h a) s (getD (a .blocks) (h .«interval_count» - 1) 0) olds dues
-  fills-shares = record { own = sym (last-lent h a (f .sound .someIntervals)); before = f .before; after = f .after }
+  fills-shares = record { own = sym (last-lent h a (f .formed .someIntervals)); before = f .before; after = f .after }
 
 -- a growth in either case
 module _
@@ -135,11 +135,11 @@ module _
     (g : Grows h ends blocks adjustments buckets olds dues falls count tops bins)
   where
     pub grows-drains : Drains h ends blocks adjustments buckets dues tops bins
-    grows-drains = record { sound = g .sound; asked = g .asked; after = g .after }
+    grows-drains = record { formed = g .formed; asked = g .asked; after = g .after }
 
     pub grows-fills : falls ≡ false → Fills h (arrays tops ends blocks adjustments) (sizes buckets bins) olds dues
     grows-fills e =
-        record { sound = g .sound; asked = g .asked; before = g .before; after = g .after; none = sym (g .falling) ∙ e }
+        record { formed = g .formed; asked = g .asked; before = g .before; after = g .after; none = sym (g .falling) ∙ e }
 
 -- what a block gains in an interval of its own, from the arrays of dues
 module _ {t : Table} {s : Shape} {last : ℕ} {olds dues : List ℕ} (shares : Shares t s last olds dues) (j : ℕ) where

@@ -8,7 +8,7 @@ use lib.ListN.{length, getD}
 use Rattle.model.specs.Limits.{maxBlocks}
 use Rattle.model.specs.Table.{Shape, Table, Arrays, arrays, table, sizes}
 use Rattle.model.specs.Refusal.{first}
-use Rattle.model.specs.Sound.{Sound}
+use Rattle.model.specs.Sound.{Formed}
 use Rattle.model.specs.Lent.{Lents, lent}
 use Rattle.model.specs.Expansion.{newTops, someFall, lastBlock}
 use Rattle.model.specs.Calls.{growthTests}
@@ -27,7 +27,7 @@ tableWith h tops ends blocks adjustments = lent h tops (ends .entry .now) (block
 
 -- an accepted growth, with the dues after it
 pub record Drains (h : Header) (ends blocks adjustments : List ℕ) (buckets : ℕ) (dues tops : List ℕ) (bins : ℕ) : Type 0 where
-  pub sound : Sound h (arrays tops ends blocks adjustments)
+  pub formed : Formed h (arrays tops ends blocks adjustments)
   pub asked : first (growthTests (lent h tops ends blocks adjustments) (sizes buckets bins)) ≡ 0
   pub after : DuesAfter (lent h tops ends blocks adjustments) (sizes buckets bins) dues
 
@@ -43,7 +43,7 @@ pub record Grows
     (bins : ℕ)
     : Type 0
   where
-    pub sound : Sound h (arrays tops ends blocks adjustments)
+    pub formed : Formed h (arrays tops ends blocks adjustments)
     pub asked : first (growthTests (lent h tops ends blocks adjustments) (sizes buckets bins)) ≡ 0
     pub before : DuesBefore (lent h tops ends blocks adjustments) olds
     pub after : DuesAfter (lent h tops ends blocks adjustments) (sizes buckets bins) dues
@@ -52,7 +52,7 @@ pub record Grows
 
 -- one by which no old block is due less
 pub record Fills (h : Header) (a : Arrays) (s : Shape) (olds dues : List ℕ) : Type 0 where
-  pub sound : Sound h a
+  pub formed : Formed h a
   pub asked : first (growthTests (table h a) s) ≡ 0
   pub before : DuesBefore (table h a) olds
   pub after : DuesAfter (table h a) s dues

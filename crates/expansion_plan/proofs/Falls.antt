@@ -11,11 +11,11 @@ use Rattle.model.specs.Table.{Shape, Table, Arrays, shape, bins, table}
 use Rattle.model.specs.Balance.{dueBelow, most}
 use Rattle.model.specs.Expansion.{has, dueAfter, someFall}
 use Rattle.model.specs.Refusal.{first}
-use Rattle.model.specs.Sound.{Sound}
+use Rattle.model.specs.Sound.{Formed}
 use Rattle.model.specs.Calls.{growthTests}
 use Rattle.model.specs.declared.table.Header.{Header}
 use Rattle.model.proofs.Counts.{bit-cases, below-or, sum-le}
-use Rattle.model.proofs.Wells.{Well, sound-well}
+use Rattle.model.proofs.Wells.{Well, formed-well}
 use Rattle.model.proofs.Growths.{Accepted, accepted, sum-tight, old-most, old-dues, none-falls, some-falls}
 use Rattle.model.proofs.Shares.{fall-none}
 
@@ -48,10 +48,10 @@ module _ (t : Table) (s : Shape) (w : Well t) (a : Accepted t s) where
 
 -- of a lent table with n bins, which are due m after the growth
 pub falls-lent
-    : (h : Header) (a : Arrays) (s : Shape) → Sound h a → first (growthTests (table h a) s) ≡ 0
+    : (h : Header) (a : Arrays) (s : Shape) → Formed h a → first (growthTests (table h a) s) ≡ 0
     → (n m : ℕ) → n ≡ bins (table h a) → m ≡ n * (s .buckets / s .bins) + min n (s .buckets % s .bins)
     → ltb m (h .buckets) ≡ someFall (table h a) s
 unfolding most dueBelow shape table
-falls-lent h a s sound asked n m e q =
+falls-lent h a s formed asked n m e q =
     ap (λ k. ltb k (h .buckets)) (q ∙ ap (dueBelow s) e)
-    ∙ sym (falls-below (table h a) s (sound-well h a sound) (accepted (table h a) s asked))
+    ∙ sym (falls-below (table h a) s (formed-well h a formed) (accepted (table h a) s asked))

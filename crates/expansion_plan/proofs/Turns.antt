@@ -1,4 +1,4 @@
--- What the sound table and the array of dues show of one turn of a loop. Assumes nothing.
+-- What the formed table and the array of dues show of one turn of a loop. Assumes nothing.
 use Prim.Native.Nat.{ℕ, _+_, _≤_, _<_}
 use mathlib.Core.Path.{_≡_, _∙_, ap}
 use mathlib.Core.List.{List}
@@ -8,7 +8,7 @@ use lib.ListN.{getD}
 use Rattle.model.specs.Basics.{before}
 use Rattle.model.specs.Table.{Shape, Arrays, table}
 use Rattle.model.specs.Due.{dueOfBlock}
-use Rattle.model.specs.Sound.{Sound}
+use Rattle.model.specs.Sound.{Formed}
 use Rattle.model.specs.Expansion.{plan, planFor}
 use Rattle.model.specs.Balance.{dueBelow}
 use Rattle.model.specs.declared.plan.Plan.{Plan}
@@ -41,36 +41,36 @@ due-turn s tops count p j l =
       closed = block-closed s tops j (le-of-lt (p .rise j l));
     }
 
-module _ (h : Header) (a : Arrays) (sound : Sound h a) where
-  -- the tops of a sound table, in a map of at least as many bins
-  pub sound-tops : (n : ℕ) → before (a .tops) (h .«block_count») ≤ n → TopsWithin (a .tops) (h .«block_count») n
-  sound-tops n l =
+module _ (h : Header) (a : Arrays) (formed : Formed h a) where
+  -- the tops of a formed table, in a map of at least as many bins
+  pub formed-tops : (n : ℕ) → before (a .tops) (h .«block_count») ≤ n → TopsWithin (a .tops) (h .«block_count») n
+  formed-tops n l =
       record {
-        few = sound .blockLimit;
-        long = sound .topsLong;
-        rise = sound .topsRise;
+        few = formed .blockLimit;
+        long = formed .topsLong;
+        rise = formed .topsRise;
         within = l;
         some =
             omega (
               arith,
-              sound .topsRise 0 (sound .someBlocks),
+              formed .topsRise 0 (formed .someBlocks),
               before-next (a .tops) 0,
-              before-mono (a .tops) (h .«block_count») (sound .topsRise) (h .«block_count») 1 (sound .someBlocks) (omega arith),
+              before-mono (a .tops) (h .«block_count») (formed .topsRise) (h .«block_count») 1 (formed .someBlocks) (omega arith),
             );
       }
 
-  -- at interval i of a sound table
+  -- at interval i of a formed table
   pub interval-at
       : (i start w : ℕ) → i < h .«interval_count» → start ≡ before (a .ends) i → w ≤ start
       → IntervalAt (a .ends) (a .blocks) (a .adjustments) i start w
   interval-at i start w l e b =
       record {
-        endsLong = omega (arith, sound .endsLong);
-        blocksLong = omega (arith, sound .blocksLong);
-        adjustmentsLong = omega (arith, sound .adjustmentsLong);
-        block = omega (arith, sound .blocksBelow i l, sound .blockLimit);
-        later = omega (arith, sound .endsRise i l);
-        adjusted = omega (arith, adjustment-most h a sound i l);
+        endsLong = omega (arith, formed .endsLong);
+        blocksLong = omega (arith, formed .blocksLong);
+        adjustmentsLong = omega (arith, formed .adjustmentsLong);
+        block = omega (arith, formed .blocksBelow i l, formed .blockLimit);
+        later = omega (arith, formed .endsRise i l);
+        adjusted = omega (arith, adjustment-most h a formed i l);
         below = b;
       }
 
@@ -82,4 +82,4 @@ module _ (h : Header) (a : Arrays) (sound : Sound h a) where
   planned s dues after i start w l p e =
       e
       ∙ ap (λ due. plan due start (lentInterval a i) w)
-      (after (getD (a .blocks) i 0) (omega (arith, sound .blocksBelow i l, sound .blockLimit)))
+      (after (getD (a .blocks) i 0) (omega (arith, formed .blocksBelow i l, formed .blockLimit)))

@@ -6,15 +6,15 @@ use lib.ListN.{length, getD}
 use Rattle.model.specs.Basics.{before}
 use Rattle.model.specs.Limits.{maxBlocks}
 use Rattle.model.specs.Table.{Shape, Table}
-use Rattle.model.specs.Lent.{TopsSound, lent}
+use Rattle.model.specs.Lent.{TopsFormed, lent}
 use Rattle.model.specs.Refusal.{first}
 use Rattle.model.specs.Expansion.{has, dueAfter}
 use Rattle.model.specs.Calls.{growthTests}
 use Rattle.model.specs.declared.table.Header.{Header}
 
--- tops of a sound table whose growth to sizes s is accepted
+-- tops of a formed table whose growth to sizes s is accepted
 pub record TopsAsked (h : Header) (tops : List ℕ) (s : Shape) : Type 0 where
-  pub whole : TopsSound h tops
+  pub whole : TopsFormed h tops
   pub asked : first (growthTests (lent h tops (whole .ends) (whole .blocks) (whole .adjustments)) s) ≡ 0
 
 -- `count` rising tops of a map with at least that many bins

@@ -1,14 +1,14 @@
-// What a growth asks for and does, on a sound table: its refusals, the dues after it, and the plan for an interval.
+// What a growth asks for and does, on a formed table: its refusals, the dues after it, and the plan for an interval.
 ghost use Prim.Native.Nat.{ℕ, _<_, _≤_};
 ghost use mathlib.Core.List.{List};
 ghost use mathlib.Core.Path.{_≡_};
 ghost use lib.ListN.{length, getD, take, replicate};
-ghost use Rattle.model.specs.Lent.{TopsSound, lent};
+ghost use Rattle.model.specs.Lent.{TopsFormed, lent};
 ghost use Rattle.model.specs.Limits.{maxBlocks};
 ghost use Rattle.model.specs.Table.{Shape, arrays, interval, sizes};
 ghost use Rattle.model.specs.Due.{dueOfBlock};
 ghost use Rattle.model.specs.Refusal.{first};
-ghost use Rattle.model.specs.Sound.{Sound};
+ghost use Rattle.model.specs.Sound.{Formed};
 ghost use Rattle.model.specs.Expansion.{newTops, someFall, plan};
 ghost use Rattle.model.specs.Calls.{growthTests};
 ghost use Rattle.expansion_plan.specs.Shares.{TopsAsked, TopsWithin, DuesBefore, DuesAfter, IntervalAt};
@@ -17,13 +17,14 @@ use model::limits::MAX_BLOCKS;
 use model::plan::Action;
 use model::plan::Plan;
 use model::table::Header;
+use sizes::overfull_refusal;
 use sizes::size_refusal;
 use table::bin_count;
 use table::due_below;
 
-// The number of the first of rules 1 to 5 that the growth breaks, or 0.
+// The number of the first of rules 1 to 5 and 31 that the growth breaks, or 0.
 pub fn growth_refusal(h: Header, tops: &[u32], buckets: u32, bins: u32) -> u32
-    requires { ⌜ TopsSound h (now tops) ⌝ }
+    requires { ⌜ TopsFormed h (now tops) ⌝ }
     ensures { λ r. ⌜ ((ends blocks adjustments : List ℕ)
         → r ≡ first (growthTests (lent h (now (tops .entry)) ends blocks adjustments) (sizes buckets bins))) ⌝ }
 {
@@ -42,17 +43,17 @@ pub fn growth_refusal(h: Header, tops: &[u32], buckets: u32, bins: u32) -> u32
         if h.block_count == MAX_BLOCKS {
             return 5;
         }
-        return 0;
+        return overfull_refusal(h.capacity, buckets, bins);
     }
     if buckets == h.buckets {
         return 4;
     }
-    0
+    overfull_refusal(h.capacity, buckets, bins)
 }
 
 // The number of blocks after the growth: one more if there are more bins.
 pub fn blocks_after(h: Header, tops: &[u32], bins: u32) -> u32
-    requires { ⌜ TopsSound h (now tops) ⌝ }
+    requires { ⌜ TopsFormed h (now tops) ⌝ }
     ensures { λ r. ⌜ ((ends blocks adjustments : List ℕ) (s : Shape) → s .bins ≡ bins
         → r ≡ length (newTops (lent h (now (tops .entry)) ends blocks adjustments) s)) ⌝ }
 {
@@ -85,11 +86,11 @@ fn block_dues(tops: &[u32], count: usize, buckets: u32, bins: u32, dues: &mut [u
     }
 }
 
-// What each block has, written over zeros: a block of a sound table has its due.
+// What each block has, written over zeros: a block of a formed table has its due.
 pub fn dues_before(h: Header, tops: &[u32], olds: &mut [u32; BLOCKS])
-    requires { ⌜ TopsSound h (now tops) ⌝ }
+    requires { ⌜ TopsFormed h (now tops) ⌝ }
     requires { ⌜ now olds ≡ replicate maxBlocks 0 ⌝ }
-    ensures { λ _. ⌜ ((ends blocks adjustments : List ℕ) → Sound h (arrays (now (tops .entry)) ends blocks adjustments)
+    ensures { λ _. ⌜ ((ends blocks adjustments : List ℕ) → Formed h (arrays (now (tops .entry)) ends blocks adjustments)
         → DuesBefore (lent h (now (tops .entry)) ends blocks adjustments) (now (olds .exit))) ⌝ }
 {
     let bins = bin_count(h, tops);
@@ -113,7 +114,7 @@ pub fn dues_after(h: Header, tops: &[u32], buckets: u32, bins: u32, dues: &mut [
 // Whether some old block is due less than it has. None is then due more, so the old bins are due less than the old buckets.
 pub fn some_fall(h: Header, tops: &[u32], buckets: u32, bins: u32) -> bool
     requires { ⌜ TopsAsked h (now tops) (sizes buckets bins) ⌝ }
-    ensures { λ r. ⌜ ((ends blocks adjustments : List ℕ) → Sound h (arrays (now (tops .entry)) ends blocks adjustments)
+    ensures { λ r. ⌜ ((ends blocks adjustments : List ℕ) → Formed h (arrays (now (tops .entry)) ends blocks adjustments)
         → r ≡ someFall (lent h (now (tops .entry)) ends blocks adjustments) (sizes buckets bins)) ⌝ }
 {
     let old = bin_count(h, tops);

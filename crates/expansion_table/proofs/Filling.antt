@@ -30,9 +30,9 @@ module _ (h : Header) (a : Arrays) (s : Shape) (olds dues : List ℕ) (f : Fills
   -- the last interval's block is one of at most 65
   pub block-few : block < maxBlocks
   block-few =
-      let sound = f .sound in
-      let some = sound .someIntervals in
-      omega (arith, sound .blocksBelow last (omega arith), sound .blockLimit)
+      let formed = f .formed in
+      let some = formed .someIntervals in
+      omega (arith, formed .blocksBelow last (omega arith), formed .blockLimit)
 
   -- where the last interval ends once it is lengthened
   pub end-filled : h .buckets + (getD dues block 0 - getD olds block 0) ≡ lengthTo (table h a) s
@@ -41,7 +41,7 @@ module _ (h : Header) (a : Arrays) (s : Shape) (olds dues : List ℕ) (f : Fills
       omega (
         arith,
         gain-from h a s olds dues f block block-few,
-        ap (gain (table h a) s) (last-lent h a (f .sound .someIntervals)),
+        ap (gain (table h a) s) (last-lent h a (f .formed .someIntervals)),
       )
 
   -- the old intervals but the last, that one, and the pieces
@@ -52,7 +52,7 @@ module _ (h : Header) (a : Arrays) (s : Shape) (olds dues : List ℕ) (f : Fills
       ++ pieces (table h a) s e 0 (length (newTops (table h a) s))
   unfolding filled table
   filled-lent e q =
-      let some = f .sound .someIntervals in
+      let some = f .formed .someIntervals in
       ap (λ is. is ++ pieces (table h a) s (lengthTo (table h a) s) 0 (length (newTops (table h a) s)))
       (lengthened-lent h a some (gain (table h a) s (lastOf (table h a))))
       ∙ ap
@@ -60,7 +60,7 @@ module _ (h : Header) (a : Arrays) (s : Shape) (olds dues : List ℕ) (f : Fills
       (from (lentInterval a) 0 last
       ++ (interval (k + gain (table h a) s (lastOf (table h a))) block (getD (a .adjustments) last 0) ∷ []))
       ++ pieces (table h a) s (lengthTo (table h a) s) 0 (length (newTops (table h a) s)))
-      (end-last h a (f .sound) last (omega arith))
+      (end-last h a (f .formed) last (omega arith))
       ∙ ap
       (λ k.
       (from (lentInterval a) 0 last ++ (interval k block (getD (a .adjustments) last 0) ∷ []))
@@ -112,12 +112,12 @@ module _ (h : Header) (a : Arrays) (s : Shape) (olds dues : List ℕ) (f : Fills
       × (cs′ ≡ over (take last (a .adjustments)) cs)
       → Stored 0 (from (lentInterval a) 0 last) es bs cs es′ bs′ cs′
   old-stored r copied =
-      let sound = f .sound in
+      let formed = f .formed in
       record {
-        ends = copied-stored (λ i. i .end) (a .ends) _ _ (λ i. refl) (sound .endsLong) (r .ends) (copied .0);
-        blocks = copied-stored (λ i. i .block) (a .blocks) _ _ (λ i. refl) (sound .blocksLong) (r .blocks) (copied .1);
+        ends = copied-stored (λ i. i .end) (a .ends) _ _ (λ i. refl) (formed .endsLong) (r .ends) (copied .0);
+        blocks = copied-stored (λ i. i .block) (a .blocks) _ _ (λ i. refl) (formed .blocksLong) (r .blocks) (copied .1);
         adjustments =
-            copied-stored (λ i. i .adjustment) (a .adjustments) _ _ (λ i. refl) (sound .adjustmentsLong) (r .adjustments) (copied .2);
+            copied-stored (λ i. i .adjustment) (a .adjustments) _ _ (λ i. refl) (formed .adjustmentsLong) (r .adjustments) (copied .2);
       }
 
   -- the pieces of n blocks from bucket e on, and room for them
@@ -151,7 +151,7 @@ module _ (h : Header) (a : Arrays) (s : Shape) (olds dues : List ℕ) (f : Fills
   pub filled-pieces
       : (e n : ℕ) → e ≡ lengthTo (table h a) s → n ≡ length (newTops (table h a) s)
       → length (filled (table h a) s) ≡ h .«interval_count» + length (pieces (table h a) s e 0 n)
-  filled-pieces e n q c = rw (q, c) (filled-length h a s (f .sound))
+  filled-pieces e n q c = rw (q, c) (filled-length h a s (f .formed))
 
   -- so what is stored one after the other are the filled intervals
   pub filled-stored
@@ -161,7 +161,7 @@ module _ (h : Header) (a : Arrays) (s : Shape) (olds dues : List ℕ) (f : Fills
       → Stored (h .«interval_count») (pieces (table h a) s e 0 n) es″ bs″ cs″ es‴ bs‴ cs‴
       → Stored 0 (filled (table h a) s) es bs cs es‴ bs‴ cs‴
   filled-stored e n q c x y w =
-      let some = f .sound .someIntervals in
+      let some = f .formed .someIntervals in
       let olds = length-from (lentInterval a) 0 last in
       rw (filled-lent e q, sym c)
       (stored-more (h .«interval_count»)

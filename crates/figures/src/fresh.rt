@@ -3,10 +3,17 @@ use crate::print::end;
 use crate::print::first;
 use crate::print::number;
 use crate::print::text;
+use model::limits::MAX_CAPACITY;
 use model::reply::TableReply;
 ghost use Prim.Native.Nat.{_<_, _≤_};
 
-// Sizes asked for: document 01's figures, then refusals 1 and 2 at their edges.
+const MOST: u32 = 1_000_000_000;
+
+const OVER: u32 = 1_000_000_001;
+
+const LAST: u32 = 4_294_967_295;
+
+// Sizes asked for, with the capacity of document 01's figures: these, then refusals 1 and 2 at their edges.
 const SIZES: [u32; 20] = [
     65_535,
     65_535,
@@ -39,13 +46,13 @@ fn size(i: usize) -> u32
 pub fn sizes() {
     let mut i: usize = 0;
     while i < 10 {
-        fresh(size(2 * i), size(2 * i + 1));
+        fresh(size(2 * i), size(2 * i + 1), MAX_CAPACITY);
         i += 1;
     }
 }
 
-// sizes; the reply; the first two entries of each array: written, and kept
-fn fresh(buckets: u32, bins: u32) {
+// sizes, capacity; the reply; the first two entries of each array: written, and kept
+fn fresh(buckets: u32, bins: u32, capacity: u32) {
     let mut tops = [7u32; 65];
     let mut ends = [7u32; 2081];
     let mut blocks = [7u32; 2081];
@@ -53,6 +60,7 @@ fn fresh(buckets: u32, bins: u32) {
     let reply = irr::initial(
         buckets,
         bins,
+        capacity,
         &mut tops,
         &mut ends,
         &mut blocks,
@@ -61,6 +69,7 @@ fn fresh(buckets: u32, bins: u32) {
     text(b"fresh");
     number(buckets);
     number(bins);
+    number(capacity);
     end();
     replied(reply);
     text(b"  entries");
@@ -77,12 +86,46 @@ fn replied(reply: TableReply) {
     number(reply.refusal);
     number(reply.moved);
     number(reply.header.buckets);
+    number(reply.header.capacity);
     number(reply.header.block_count);
     number(reply.header.interval_count);
     end();
 }
 
-// 21: one entry short in each array. The sizes would be refused too.
+// Fresh maps. Of (10, 2) a bin holds 5, of (11, 2) the first one 6. 30 comes before 1 and 2; 1 comes before 31, and 2 leaves no
+// bin with more than one bucket.
+pub fn maps() {
+    fresh(10, 2, 5);
+    fresh(10, 2, 4);
+    fresh(11, 2, 6);
+    fresh(11, 2, 5);
+    fresh(10, 2, 0);
+    fresh(10, 2, OVER);
+    fresh(10, 2, LAST);
+    fresh(10, 2, MOST);
+    most_maps();
+    order();
+}
+
+// The most buckets. In 43 bins, P n is above a multiple of 2^32 by less than B.
+fn most_maps() {
+    fresh(MOST, 1, MOST);
+    fresh(MOST, 43, MOST);
+    fresh(MOST, 1, 999_999_999);
+    fresh(MOST, 65_535, 15_260);
+    fresh(MOST, 65_535, 15_259);
+}
+
+fn order() {
+    fresh(0, 2, 0);
+    fresh(10, 0, OVER);
+    fresh(1, 2, 0);
+    fresh(OVER, 1, 4);
+    fresh(10, 0, 4);
+    fresh(1, 2, 1);
+}
+
+// 21: one entry short in each array. The capacity and the sizes would be refused too.
 pub fn rooms() {
     asked(b"room for all", 65, 2_081, 2_081, 2_081);
     asked(b"64 tops", 64, 2_081, 2_081, 2_081);
@@ -103,6 +146,7 @@ fn asked(words: &[u8], tops: usize, ends: usize, blocks: usize, adjustments: usi
     let mut all_blocks = [7u32; 2081];
     let mut all_adjustments = [7u32; 2081];
     let reply = irr::initial(
+        0,
         0,
         0,
         &mut all_tops[..tops],

@@ -2,6 +2,7 @@
 use crate::print::placed;
 use crate::print::text;
 use crate::read::place;
+use model::limits::MAX_CAPACITY;
 use model::table::Header;
 ghost use Prim.Native.Nat.{_<_, _≤_};
 
@@ -338,6 +339,7 @@ fn header(at: usize) -> Header
 {
     Header {
         buckets: case(at),
+        capacity: MAX_CAPACITY,
         block_count: case(at + 1),
         interval_count: case(at + 2),
     }

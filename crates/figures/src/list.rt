@@ -1,16 +1,25 @@
-// Lists of buckets on the map of document 01's history after (14, 5): 33, 32 and 6, each at its edge on both sides, and which
-// of them comes first.
+// Lists of buckets on the map of document 01's history after (14, 5): 33, 30, 32 and 6, each at its edge on both sides, and
+// which of them comes first.
 use crate::print::end;
 use crate::print::first;
 use crate::print::number;
 use crate::print::text;
+use model::limits::MAX_CAPACITY;
 use model::table::Header;
 
-// B and the last adjustment are given; the buckets; refusal; the lent result afterwards.
-fn asked(words: &[u8], b: u32, adjustment: u32, buckets: &[u32], result: &mut [u32]) {
+// B, the capacity and the last adjustment are given; the buckets; refusal; the lent result afterwards.
+fn asked(
+    words: &[u8],
+    b: u32,
+    capacity: u32,
+    adjustment: u32,
+    buckets: &[u32],
+    result: &mut [u32],
+) {
     let reply = irr::places(
         Header {
             buckets: b,
+            capacity,
             block_count: 4,
             interval_count: 5,
         },
@@ -33,7 +42,17 @@ fn asked(words: &[u8], b: u32, adjustment: u32, buckets: &[u32], result: &mut [u
 }
 
 fn places(buckets: &[u32], result: &mut [u32]) {
-    asked(b"(14, 5) places", 14, 11, buckets, result);
+    asked(b"(14, 5) places", 14, MAX_CAPACITY, 11, buckets, result);
+}
+
+// A table that is refused by 11.
+fn places_0(buckets: &[u32], result: &mut [u32]) {
+    asked(b"B 0, places", 0, MAX_CAPACITY, 11, buckets, result);
+}
+
+// The largest bin holds 3.
+fn places_small(words: &[u8], capacity: u32, buckets: &[u32], result: &mut [u32]) {
+    asked(words, 14, capacity, 11, buckets, result);
 }
 
 // Every interval; one bucket twice, and intervals that are skipped.
@@ -49,8 +68,8 @@ fn rooms() {
     places(&[3], &mut [9; 2]);
     places(&[3], &mut [9; 1]);
     places(&[3], &mut [9; 0]);
-    asked(b"B 0, places", 0, 11, &[3, 6], &mut [9; 3]);
-    asked(b"B 0, places", 0, 11, &[3, 6], &mut [9; 4]);
+    places_0(&[3, 6], &mut [9; 3]);
+    places_0(&[3, 6], &mut [9; 4]);
     places(&[6, 5], &mut [9; 3]);
     places(&[14], &mut [9; 1]);
 }
@@ -62,9 +81,34 @@ fn falls() {
     places(&[6, 5, 13, 13], &mut [9; 8]);
     places(&[3, 7, 6, 13], &mut [9; 8]);
     places(&[3, 6, 13, 12], &mut [9; 8]);
-    asked(b"last adjustment 12, places", 14, 12, &[6, 5], &mut [9; 4]);
+    asked(
+        b"last adjustment 12, places",
+        14,
+        MAX_CAPACITY,
+        12,
+        &[6, 5],
+        &mut [9; 4],
+    );
     places(&[14, 13], &mut [9; 4]);
     places(&[6, 5, 14], &mut [9; 6]);
+}
+
+// 30: 33 and 16 come before it, it before 32 and 6.
+fn capacities() {
+    places_small(b"capacity 3, places", 3, &[6, 6], &mut [9; 4]);
+    places_small(b"capacity 2, places", 2, &[6, 6], &mut [9; 4]);
+    places_small(b"capacity 2, places", 2, &[6, 5], &mut [9; 4]);
+    places_small(b"capacity 2, places", 2, &[6, 14], &mut [9; 4]);
+    places_small(b"capacity 2, places", 2, &[6, 5], &mut [9; 3]);
+    places_small(b"capacity 0, places", 0, &[6, 5], &mut [9; 4]);
+    asked(
+        b"capacity 2, last adjustment 12, places",
+        14,
+        2,
+        12,
+        &[6, 5],
+        &mut [9; 4],
+    );
 }
 
 // 6.
@@ -82,13 +126,14 @@ fn none() {
     let one = [0u32; 1];
     places(&one[..0], &mut [9; 0]);
     places(&one[..0], &mut [9; 3]);
-    asked(b"B 0, places", 0, 11, &one[..0], &mut [9; 0]);
+    places_0(&one[..0], &mut [9; 0]);
 }
 
 pub fn lists() {
     accepted();
     rooms();
     falls();
+    capacities();
     ends();
     none();
 }

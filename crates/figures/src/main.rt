@@ -1,7 +1,6 @@
-// Works through document 01's figures without a star, the slips of the rack fitter, and each refusal at its edge on both
+// Works through document 01's figures without a star, the slips of the rack fitter, and refusals at their edges on both
 // sides, through the public calls, and prints what it saw: a line a call, its arguments and then its whole reply.
 mod fresh;
-mod keep;
 mod lent;
 mod list;
 mod long;
@@ -10,6 +9,7 @@ mod read;
 
 fn main() {
     fresh::sizes();
+    fresh::maps();
     fresh::rooms();
     fresh::expansions();
     read::map_3();
@@ -17,6 +17,5 @@ fn main() {
     list::lists();
     lent::tables();
     long::tables();
-    keep::saves();
-    keep::loads();
+    long::growths();
 }

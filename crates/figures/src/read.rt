@@ -3,6 +3,7 @@ use crate::print::end;
 use crate::print::number;
 use crate::print::placed;
 use crate::print::text;
+use model::limits::MAX_CAPACITY;
 use model::table::Header;
 
 // Places a bucket: n; refusal, bin, position.
@@ -27,6 +28,7 @@ pub fn place(
 fn place_3(bucket: u32) {
     let h = Header {
         buckets: 10,
+        capacity: MAX_CAPACITY,
         block_count: 2,
         interval_count: 2,
     };
@@ -124,6 +126,7 @@ pub fn map_3() {
 pub fn map_5() {
     let h = Header {
         buckets: 14,
+        capacity: MAX_CAPACITY,
         block_count: 4,
         interval_count: 5,
     };

@@ -1,5 +1,5 @@
 // Loading: a file is judged where it lies, its adjustments are worked out in an array of one's own, and all is written out
-// after every rule has passed. `h` is the header that the file says.
+// after every rule has passed. `h` is the header that the file says, with the capacity given.
 use file_number::header_of;
 use file_number::number_at;
 use file_rules::complete;
@@ -7,6 +7,7 @@ use model::limits::BLOCKS;
 use model::limits::INTERVALS;
 use model::reply::LoadReply;
 use model::table::Header;
+use soundness::capacity_wrong;
 use soundness::header_outside;
 use soundness::judged_alone;
 use table::copy;
@@ -23,16 +24,16 @@ ghost use Rattle.model.specs.Saved.{number, loadedHeader, fileWrong};
 ghost use Rattle.model.specs.Calls.{loadAnswer, loadTests};
 ghost use Rattle.soundness.specs.Passed.{alone};
 ghost use Rattle.file_rules.specs.Judging.{fileArrays, Counted};
-ghost use Rattle.file_load.specs.Loading.{Opened, outOver, loadedOver, Loaded};
+ghost use Rattle.file_load.specs.Loading.{Opened, Judged, outOver, loadedOver, Loaded};
 
 // 11: B, G or k outside its limits, or a file of another length.
-fn file_wrong(f: &[u8]) -> bool
-    ensures { λ r. ⌜ r ≡ fileWrong (now (f .entry)) ⌝ }
+fn file_wrong(f: &[u8], capacity: u32) -> bool
+    ensures { λ r. ⌜ r ≡ fileWrong (now (f .entry)) capacity ⌝ }
 {
     if f.len() < 12 {
         return true;
     }
-    let h = header_of(f);
+    let h = header_of(f, capacity);
     if header_outside(h) {
         return true;
     }
@@ -101,6 +102,27 @@ fn write_out(
     copy(own, interval_count, adjustments);
 }
 
+// Loads a file that passes rules 11 to 15: 30, and then its table is written. `own_tops` are its tops, and `own` has its adjustments.
+fn load_judged(
+    f: &[u8],
+    h: Header,
+    own_tops: &[u32],
+    own: &[u32],
+    tops: &mut [u32],
+    ends: &mut [u32],
+    blocks: &mut [u32],
+    adjustments: &mut [u32],
+) -> u32
+    requires { ⌜ Judged (now f) h (now «own_tops») (now own) (arraysNow tops ends blocks adjustments) ⌝ }
+    ensures { λ r. ⌜ Loaded (now (f .entry)) (h .capacity) (given tops ends blocks adjustments) r (left tops ends blocks adjustments) ⌝ }
+{
+    if capacity_wrong(h, own_tops) {
+        return 30;
+    }
+    write_out(f, h, own, tops, ends, blocks, adjustments);
+    0
+}
+
 // Loads a file by an array for its adjustments.
 fn load_by(
     f: &[u8],
@@ -113,7 +135,7 @@ fn load_by(
 ) -> u32
     requires { ⌜ Opened (now f) h (arraysNow tops ends blocks adjustments) ⌝ }
     requires { ⌜ h .«interval_count» ≤ length (now own) ⌝ }
-    ensures { λ r. ⌜ Loaded (now (f .entry)) (given tops ends blocks adjustments) r (left tops ends blocks adjustments) ⌝ }
+    ensures { λ r. ⌜ Loaded (now (f .entry)) (h .capacity) (given tops ends blocks adjustments) r (left tops ends blocks adjustments) ⌝ }
 {
     let count = h.block_count as usize;
     let mut own_tops = [0u32; BLOCKS];
@@ -122,24 +144,34 @@ fn load_by(
     if broken != 0 {
         return broken;
     }
-    write_out(f, h, own, tops, ends, blocks, adjustments);
-    0
+    load_judged(
+        f,
+        h,
+        &own_tops[..count],
+        own,
+        tops,
+        ends,
+        blocks,
+        adjustments,
+    )
 }
 
 // A file of one block and one interval, whose adjustment is 0.
 fn load_alone(
     f: &[u8],
     buckets: u32,
+    capacity: u32,
     tops: &mut [u32],
     ends: &mut [u32],
     blocks: &mut [u32],
     adjustments: &mut [u32],
 ) -> u32
-    requires { ⌜ Opened (now f) (alone buckets) (arraysNow tops ends blocks adjustments) ⌝ }
-    ensures { λ r. ⌜ Loaded (now (f .entry)) (given tops ends blocks adjustments) r (left tops ends blocks adjustments) ⌝ }
+    requires { ⌜ Opened (now f) (alone buckets capacity) (arraysNow tops ends blocks adjustments) ⌝ }
+    ensures { λ r. ⌜ Loaded (now (f .entry)) capacity (given tops ends blocks adjustments) r (left tops ends blocks adjustments) ⌝ }
 {
     let h = Header {
         buckets,
+        capacity,
         block_count: 1,
         interval_count: 1,
     };
@@ -148,12 +180,27 @@ fn load_alone(
     let mut own_blocks = [0u32; 1];
     let own_adjustments = [0u32; 1];
     decode(f, h, &mut own_tops, &mut own_ends, &mut own_blocks);
-    let refusal = judged_alone(buckets, &own_tops, &own_ends, &own_blocks, &own_adjustments);
+    let refusal = judged_alone(
+        buckets,
+        capacity,
+        &own_tops,
+        &own_ends,
+        &own_blocks,
+        &own_adjustments,
+    );
     if refusal != 0 {
         return refusal;
     }
-    write_out(f, h, &own_adjustments, tops, ends, blocks, adjustments);
-    0
+    load_judged(
+        f,
+        h,
+        &own_tops,
+        &own_adjustments,
+        tops,
+        ends,
+        blocks,
+        adjustments,
+    )
 }
 
 // The intervals of a file that a small array does for, and a middle one: an array of one's own is cleared.
@@ -172,7 +219,7 @@ fn load_few(
 ) -> u32
     requires { ⌜ Opened (now f) h (arraysNow tops ends blocks adjustments) ⌝ }
     requires { ⌜ h .«interval_count» ≤ 128 ⌝ }
-    ensures { λ r. ⌜ Loaded (now (f .entry)) (given tops ends blocks adjustments) r (left tops ends blocks adjustments) ⌝ }
+    ensures { λ r. ⌜ Loaded (now (f .entry)) (h .capacity) (given tops ends blocks adjustments) r (left tops ends blocks adjustments) ⌝ }
 {
     let mut own = [0u32; FEW];
     load_by(f, h, &mut own, tops, ends, blocks, adjustments)
@@ -189,7 +236,7 @@ fn load_some(
 ) -> u32
     requires { ⌜ Opened (now f) h (arraysNow tops ends blocks adjustments) ⌝ }
     requires { ⌜ h .«interval_count» ≤ 512 ⌝ }
-    ensures { λ r. ⌜ Loaded (now (f .entry)) (given tops ends blocks adjustments) r (left tops ends blocks adjustments) ⌝ }
+    ensures { λ r. ⌜ Loaded (now (f .entry)) (h .capacity) (given tops ends blocks adjustments) r (left tops ends blocks adjustments) ⌝ }
 {
     let mut own = [0u32; SOME];
     load_by(f, h, &mut own, tops, ends, blocks, adjustments)
@@ -205,7 +252,7 @@ fn load_many(
     adjustments: &mut [u32],
 ) -> u32
     requires { ⌜ Opened (now f) h (arraysNow tops ends blocks adjustments) ⌝ }
-    ensures { λ r. ⌜ Loaded (now (f .entry)) (given tops ends blocks adjustments) r (left tops ends blocks adjustments) ⌝ }
+    ensures { λ r. ⌜ Loaded (now (f .entry)) (h .capacity) (given tops ends blocks adjustments) r (left tops ends blocks adjustments) ⌝ }
 {
     let mut own = [0u32; INTERVALS];
     load_by(f, h, &mut own, tops, ends, blocks, adjustments)
@@ -221,7 +268,7 @@ fn load_sized(
     adjustments: &mut [u32],
 ) -> u32
     requires { ⌜ Opened (now f) h (arraysNow tops ends blocks adjustments) ⌝ }
-    ensures { λ r. ⌜ Loaded (now (f .entry)) (given tops ends blocks adjustments) r (left tops ends blocks adjustments) ⌝ }
+    ensures { λ r. ⌜ Loaded (now (f .entry)) (h .capacity) (given tops ends blocks adjustments) r (left tops ends blocks adjustments) ⌝ }
 {
     let intervals = h.interval_count as usize;
     if SOME < intervals {
@@ -244,6 +291,7 @@ fn reply(refusal: u32, h: Header) -> LoadReply
         refusal,
         header: Header {
             buckets: 0,
+            capacity: 0,
             block_count: 0,
             interval_count: 0,
         },
@@ -253,29 +301,31 @@ fn reply(refusal: u32, h: Header) -> LoadReply
 // Loads a file into arrays with room for any table.
 pub fn loaded(
     f: &[u8],
+    capacity: u32,
     tops: &mut [u32],
     ends: &mut [u32],
     blocks: &mut [u32],
     adjustments: &mut [u32],
 ) -> LoadReply
     requires { ⌜ roomShort (arraysNow tops ends blocks adjustments) ≡ false ⌝ }
-    ensures { λ r. ⌜ r ≡ loadAnswer (first (loadTests (now (f .entry)))) (loadedHeader (now (f .entry))) ⌝ }
-    ensures { λ _. ⌜ left tops ends blocks adjustments ≡ loadedOver (now (f .entry)) (given tops ends blocks adjustments) ⌝ }
+    ensures { λ r. ⌜ r ≡ loadAnswer (first (loadTests (now (f .entry)) capacity)) (loadedHeader (now (f .entry)) capacity) ⌝ }
+    ensures { λ _. ⌜ left tops ends blocks adjustments ≡ loadedOver (now (f .entry)) capacity (given tops ends blocks adjustments) ⌝ }
 {
-    if file_wrong(f) {
+    if file_wrong(f, capacity) {
         return LoadReply {
             refusal: 11,
             header: Header {
                 buckets: 0,
+                capacity: 0,
                 block_count: 0,
                 interval_count: 0,
             },
         };
     }
-    let h = header_of(f);
+    let h = header_of(f, capacity);
     if h.interval_count == 1 {
         if h.block_count == 1 {
-            let refusal = load_alone(f, h.buckets, tops, ends, blocks, adjustments);
+            let refusal = load_alone(f, h.buckets, h.capacity, tops, ends, blocks, adjustments);
             return reply(refusal, h);
         }
     }

@@ -30,13 +30,14 @@ pub fn number_at(f: &[u8], i: usize) -> u32
     a + 256 * b + 65_536 * c + 16_777_216 * d
 }
 
-// The header that a file says: its first three numbers are B, G and k.
-pub fn header_of(f: &[u8]) -> Header
+// The header that a file says, with the capacity given: its first three numbers are B, G and k.
+pub fn header_of(f: &[u8], capacity: u32) -> Header
     requires { ⌜ 12 ≤ length (now f) ⌝ }
-    ensures { λ r. ⌜ r ≡ loadedHeader (now (f .entry)) ⌝ }
+    ensures { λ r. ⌜ r ≡ loadedHeader (now (f .entry)) capacity ⌝ }
 {
     Header {
         buckets: number_at(f, 0),
+        capacity,
         block_count: number_at(f, 1),
         interval_count: number_at(f, 2),
     }

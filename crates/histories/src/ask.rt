@@ -1,4 +1,5 @@
 // The growths that are asked for, and which of them are refused by their sizes.
+use crate::directory::due_size;
 use crate::state::State;
 use crate::state::below;
 use crate::state::draw;
@@ -81,13 +82,32 @@ fn wrong(s: State, choice: u32) -> State {
     ask(s, entry(&buckets, choice), entry(&bins, choice))
 }
 
-// The refusal by the sizes alone, or 0.
+// The refusal by the sizes and the capacity alone, or 0.
 pub fn refusal(s: State) -> u32 {
     let wrong = wrong_sizes(s.asked_buckets, s.asked_bins);
     if wrong != 0 {
         return wrong;
     }
-    wrong_growth(s.asked_buckets, s.asked_bins, s.buckets, s.bins, s.blocks)
+    let wrong = wrong_growth(s.asked_buckets, s.asked_bins, s.buckets, s.bins, s.blocks);
+    if wrong != 0 {
+        return wrong;
+    }
+    if some_overfull(s.capacity, s.asked_buckets, s.asked_bins) {
+        return 31;
+    }
+    0
+}
+
+// Whether some bin of a map of these sizes is due more than the capacity.
+fn some_overfull(capacity: u32, buckets: u32, bins: u32) -> bool {
+    let mut bin: u32 = 0;
+    while bin < bins {
+        if capacity < due_size(buckets, bins, bin) {
+            return true;
+        }
+        bin += 1;
+    }
+    false
 }
 
 fn wrong_sizes(buckets: u32, bins: u32) -> u32 {

@@ -5,6 +5,7 @@ use crate::directory::Directory;
 use crate::directory::POSITION;
 use crate::directory::SIZE;
 use crate::directory::get;
+use crate::file;
 use crate::list;
 use crate::state::State;
 use crate::state::same;
@@ -17,7 +18,7 @@ use crate::total::quotient;
 use model::table::Header;
 ghost use Prim.Native.Nat.{_<_, _≤_};
 
-// A map whole, lists of its buckets, and the first bucket and the first bin that there are not.
+// A map whole, lists of its buckets, its file, and the first bucket and the first bin that there are not.
 pub fn map(h: Header, tops: &[u32; 65], rest: &[[u32; 2081]; 3], d: &Directory, s: State) -> State {
     let tops = &tops[..];
     let ends = &rest[0][..];
@@ -26,6 +27,7 @@ pub fn map(h: Header, tops: &[u32; 65], rest: &[[u32; 2081]; 3], d: &Directory, 
     let s = buckets(h, tops, ends, blocks, adjustments, d, s.buckets, s);
     let s = bins(h, tops, ends, blocks, adjustments, d, s.bins, s);
     let s = list::lists(h, tops, ends, blocks, adjustments, d, s);
+    let s = file::files(h, tops, ends, blocks, adjustments, d, s);
     let s = place(h, tops, ends, blocks, adjustments, s.buckets, 6, 0, 0, s);
     find(h, tops, ends, blocks, adjustments, s.bins, 0, 7, 0, s)
 }
@@ -78,7 +80,7 @@ fn buckets(
     s
 }
 
-fn place(
+pub fn place(
     h: Header,
     tops: &[u32],
     ends: &[u32],

@@ -59,7 +59,7 @@ fn block_of(d: &Directory, bin: u32) -> u32 {
 }
 
 // The due size of a bin.
-fn due_size(buckets: u32, bins: u32, bin: u32) -> u32 {
+pub fn due_size(buckets: u32, bins: u32, bin: u32) -> u32 {
     let size = quotient(buckets, bins);
     if bin < remainder(buckets, bins) {
         return plus(size, 1);
@@ -194,6 +194,20 @@ fn count_sizes(d: &mut Directory, count: u32) {
         put(d, SIZE, bin, plus(get(d, SIZE, bin), 1));
         bucket += 1;
     }
+}
+
+// The size of the largest bin.
+pub fn largest(d: &Directory, bins: u32) -> u32 {
+    let mut most: u32 = 0;
+    let mut bin: u32 = 0;
+    while bin < bins {
+        let size = get(d, SIZE, bin);
+        if most < size {
+            most = size;
+        }
+        bin += 1;
+    }
+    most
 }
 
 // How many of the first `count` buckets have another bin.

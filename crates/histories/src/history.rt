@@ -24,6 +24,7 @@ fn initial(s: State, tops: &mut [u32; 65], rest: &mut Rest) -> TableReply {
     let reply = irr::initial(
         s.asked_buckets,
         s.asked_bins,
+        s.capacity,
         tops,
         &mut ends,
         &mut blocks,
@@ -73,6 +74,7 @@ fn grown(reply: TableReply, d: &mut Directory, s: State) -> State {
     let s = same(s, reply.refusal, 0);
     let s = same(s, reply.moved, moved);
     let s = same(s, reply.header.buckets, s.buckets);
+    let s = same(s, reply.header.capacity, s.capacity);
     same(s, reply.header.block_count, s.blocks)
 }
 
@@ -111,14 +113,48 @@ fn refused(
     let s = compare::page(h, tops, ends, blocks, adjustments, d, 0, right, 0, 0, 1, s);
     let s = zeros(reply, s);
     if reply.refusal == 8 {
+        let s = tight(h, tops, ends, blocks, adjustments, d, s);
         return too_many(h, s);
     }
     same(s, reply.refusal, right)
 }
 
+// What 8 refuses, asked of the same table with the least capacity: 31 comes before 8, where it holds.
+fn tight(
+    h: Header,
+    tops: &[u32],
+    ends: &[u32],
+    blocks: &[u32],
+    adjustments: &[u32],
+    d: &Directory,
+    s: State,
+) -> State {
+    let mut small = h;
+    small.capacity = directory::largest(d, s.bins);
+    let mut held = s;
+    held.capacity = small.capacity;
+    let mut new_tops = [0u32; 65];
+    let mut new_rest = [[0u32; 2081]; 3];
+    let reply = expand(
+        small,
+        tops,
+        ends,
+        blocks,
+        adjustments,
+        s,
+        &mut new_tops,
+        &mut new_rest,
+    );
+    let right = refusal(held);
+    if right == 31 {
+        return same(s, reply.refusal, 31);
+    }
+    same(s, reply.refusal, 8)
+}
+
 fn refused_by(s: State, i: usize) -> State {
     let mut after = s;
-    if i < 10 {
+    if i < 32 {
         after.refused[i] = plus(s.refused[i], 1);
     }
     after
@@ -128,6 +164,7 @@ fn zeros(reply: TableReply, s: State) -> State {
     let s = refused_by(s, reply.refusal as usize);
     let s = same(s, reply.moved, 0);
     let s = same(s, reply.header.buckets, 0);
+    let s = same(s, reply.header.capacity, 0);
     let s = same(s, reply.header.block_count, 0);
     same(s, reply.header.interval_count, 0)
 }

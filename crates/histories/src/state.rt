@@ -7,19 +7,21 @@ pub struct State {
     pub histories: u32,
     pub accepted: u32,
     // growths refused by number n, at n
-    pub refused: [u32; 10],
+    pub refused: [u32; 32],
     pub intervals: u32,
     pub buckets_seen: u32,
     pub bins_seen: u32,
     pub rows_seen: u32,
     pub listed_seen: u32,
+    pub files_seen: u32,
     pub compared: u32,
     pub failed: u32,
     pub seed: u32,
-    // B, n and the number of blocks in the directory; B before the latest growth, and how many buckets that moved
+    // B, n and the number of blocks in the directory; P; B before the latest growth, and how many buckets that moved
     pub buckets: u32,
     pub bins: u32,
     pub blocks: u32,
+    pub capacity: u32,
     pub old_buckets: u32,
     pub moved: u32,
     // the bucket from which the next row of a move list comes
@@ -50,12 +52,13 @@ pub fn below(seed: u32, bound: u32) -> u32 {
 }
 
 // Before a fresh map: no sizes.
-pub fn fresh(s: State, seed: u32, buckets: u32, bins: u32) -> State {
+pub fn fresh(s: State, seed: u32, buckets: u32, bins: u32, capacity: u32) -> State {
     let mut after = s;
     after.seed = seed;
     after.buckets = 0;
     after.bins = 0;
     after.blocks = 0;
+    after.capacity = capacity;
     after.asked_buckets = buckets;
     after.asked_bins = bins;
     after

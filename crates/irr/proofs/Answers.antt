@@ -1,24 +1,26 @@
 -- Laws of the calls' replies: what a refusal by the table's tests, or by the tests after them, makes of each. Assumes nothing.
 use Prim.Native.Nat.{ℕ, _+_, _*_, _≤_, _<_}
 use mathlib.Core.Path.{_≡_, refl, sym, _∙_, ap}
-use mathlib.Core.Bool.{true, false}
-use mathlib.Core.List.{List, [], _++_}
+use mathlib.Core.Bool.{Bool, true, false}
+use mathlib.Core.List.{List, [], _∷_, _++_}
 use native.Mathlib.Omega.{arith}
 use lib.ListN.{length}
 use borrow.Author.Tests.{lt-ltb, le-ltb}
 use Rattle.model.specs.Basics.{if_then_else_}
+use Rattle.model.specs.Limits.{maxCapacity}
 use Rattle.model.specs.Table.{Shape, Arrays, arrays, table, header, over, written}
-use Rattle.model.specs.Refusal.{Test, first, headerOutside, arraysShort, roomShort, resultShort}
+use Rattle.model.specs.Refusal.{Test, first, overfills, outside, headerOutside, arraysShort, capacityOutside, roomShort, resultShort}
 use Rattle.model.specs.Place.{places}
 use Rattle.model.specs.Search.{placeAt}
-use Rattle.model.specs.Sound.{Sound}
+use Rattle.model.specs.Sound.{Formed}
 use Rattle.model.specs.Initial.{initial}
 use Rattle.model.specs.Saved.{saved, savedLength, loadedHeader, loadedArrays}
-use Rattle.model.specs.Calls.{answer, noHeader, tableTests, sizeTests, tableReply, arraysAfter, initialRefusal, initialReply}
+use Rattle.model.specs.Calls.{answer, noHeader, tableTests, sizeTests, freshTests, tableReply, arraysAfter, initialRefusal, initialReply}
 use Rattle.model.specs.Calls.{initialArrays, saveTests, saveRefusal, saveReply, saveBytes, loadTests, loadRefusal, loadAnswer}
 use Rattle.model.specs.Calls.{loadReply, loadArrays, placeAnswer, placeTests, placeReply, findAnswer, findTests, findReply}
 use Rattle.model.specs.Calls.{binSizeAnswer, binSizeTests, binSizeReply, placesTests, placesRefusal, placesReply, placesAfter}
 use Rattle.model.specs.declared.table.Header.{Header}
+use Rattle.model.specs.declared.reply.TableReply.{TableReply}
 use Rattle.model.proofs.Refusals.{first-here, first-skip, first-found, first-after, accepted, refused}
 use Rattle.file_load.specs.Loading.{loadedOver}
 use Rattle.model.proofs.Bytes.{saved-same}
@@ -32,9 +34,9 @@ unfolding tableTests
 short-refused h a e = sym (first-here _ _ (or-second (headerOutside h) (arraysShort h a) e))
 
 module _ (h : Header) (a : Arrays) (r : ℕ) (e : r ≡ first (tableTests h a)) where
-  -- a table that the check passes is sound
-  pub checked : r ≡ 0 → Sound h a
-  checked z = sound-iff h a .0 (sym e ∙ z)
+  -- a table that the check passes is sound, so it passes rules 11 to 16
+  pub checked : r ≡ 0 → Formed h a
+  checked z = sound-iff h a .0 (sym e ∙ z) .formed
 
   -- a refusal by the table's tests stands
   pub stands : (us : List Test) → (r ≡ 0 → ⊥) → r ≡ first (tableTests h a ++ us)
@@ -94,30 +96,56 @@ module _ (h : Header) (a : Arrays) (xs out : List ℕ) where
 
 -- A CALL THAT WRITES A TABLE
 
-module _ (s : Shape) (out : Arrays) where
-  -- an initial call is refused by the room lent, or by the sizes asked for
-  pub initial-short : roomShort out ≡ true → 21 ≡ initialRefusal s out
-  unfolding initialRefusal
-  initial-short h = sym (first-here (21, roomShort out) (sizeTests s) h)
+-- a reply that refuses by n, where n is k
+pub refused-by
+    : (n k : ℕ) (z : TableReply) → z ≡ record { refusal = n; moved = 0; header = noHeader } → n ≡ k
+    → z ≡ record { refusal = k; moved = 0; header = noHeader }
+refused-by n k z e same = e ∙ ap (λ r. record { refusal = r; moved = 0; header = noHeader }) same
 
-  pub initial-sizes : (r : ℕ) → roomShort out ≡ false → r ≡ first (sizeTests s) → r ≡ initialRefusal s out
+-- the sizes asked for are refused by rules 1 and 2, or by 31 after them
+pub fresh-sizes : (s : Shape) (p r : ℕ) → r ≡ first (sizeTests s) → (r ≡ 0 → ⊥) → r ≡ first (freshTests s p)
+unfolding freshTests
+fresh-sizes s p r e n = e ∙ sym (first-found (sizeTests s) _ (λ z. n (e ∙ z)))
+
+pub fresh-overfull
+    : (s : Shape) (p : ℕ) → first (sizeTests s) ≡ 0 → (w : Bool) → w ≡ overfills p s → first ((31, w) ∷ []) ≡ first (freshTests s p)
+unfolding freshTests sizeTests
+fresh-overfull s p z w e = ap (λ b. first ((31, b) ∷ [])) e ∙ sym (first-after (sizeTests s) _ (omega arith) z)
+
+module _ (s : Shape) (p : ℕ) (out : Arrays) where
+  -- an initial call is refused by the room lent, by its capacity, or by the sizes asked for
+  pub initial-short : roomShort out ≡ true → 21 ≡ initialRefusal s p out
   unfolding initialRefusal
-  initial-sizes r h e = e ∙ sym (first-skip (21, roomShort out) (sizeTests s) h)
+  initial-short h = sym (first-here (21, roomShort out) _ h)
+
+  pub initial-outside : roomShort out ≡ false → outside maxCapacity p ≡ true → 30 ≡ initialRefusal s p out
+  unfolding initialRefusal capacityOutside
+  initial-outside h e = sym (first-skip (21, roomShort out) _ h ∙ first-here (30, capacityOutside p) (freshTests s p) e)
+
+  pub initial-sizes
+      : (r : ℕ) → roomShort out ≡ false → outside maxCapacity p ≡ false → r ≡ first (freshTests s p) → r ≡ initialRefusal s p out
+  unfolding initialRefusal capacityOutside
+  initial-sizes r h c e =
+      e ∙ sym (first-skip (21, roomShort out) _ h ∙ first-skip (30, capacityOutside p) (freshTests s p) c)
 
   pub initial-refused
-      : (r : ℕ) → r ≡ initialRefusal s out → (r ≡ 0 → ⊥)
-      → (record { refusal = r; moved = 0; header = noHeader } ≡ initialReply s out) × (out ≡ initialArrays s out)
+      : (r : ℕ) → r ≡ initialRefusal s p out → (r ≡ 0 → ⊥)
+      → (record { refusal = r; moved = 0; header = noHeader } ≡ initialReply s p out) × (out ≡ initialArrays s p out)
   unfolding initialReply tableReply initialArrays arraysAfter
   initial-refused r e n = (rw (← e) (sym (refused r _ _ n)), rw (← e) (sym (refused r _ _ n)))
 
   pub initial-accepted
-      : (r : ℕ) → r ≡ initialRefusal s out → r ≡ 0
-      → (record { refusal = 0; moved = 0; header = record { buckets = s .buckets; «block_count» = 1; «interval_count» = 1 } }
-      ≡ initialReply s out)
-      × (written (initial s) out ≡ initialArrays s out)
+      : (r : ℕ) → r ≡ initialRefusal s p out → r ≡ 0
+      → (record {
+        refusal = 0;
+        moved = 0;
+        header = record { buckets = s .buckets; capacity = p; «block_count» = 1; «interval_count» = 1 };
+      }
+      ≡ initialReply s p out)
+      × (written (initial s p) out ≡ initialArrays s p out)
   unfolding initialReply tableReply initialArrays arraysAfter header initial
   initial-accepted r e z =
-      (sym (accepted (initialRefusal s out) _ _ (sym e ∙ z)), sym (accepted (initialRefusal s out) _ _ (sym e ∙ z)))
+      (sym (accepted (initialRefusal s p out) _ _ (sym e ∙ z)), sym (accepted (initialRefusal s p out) _ _ (sym e ∙ z)))
 
 -- SAVING
 
@@ -156,33 +184,33 @@ module _ (h : Header) (a : Arrays) (r : ℕ) (e : r ≡ first (tableTests h a)) 
 
 -- LOADING
 
-module _ (f : List ℕ) (out : Arrays) where
-  pub load-short : roomShort out ≡ true → 21 ≡ loadRefusal f out
+module _ (f : List ℕ) (p : ℕ) (out : Arrays) where
+  pub load-short : roomShort out ≡ true → 21 ≡ loadRefusal f p out
   unfolding loadRefusal
-  load-short w = sym (first-here (21, roomShort out) (loadTests f) w)
+  load-short w = sym (first-here (21, roomShort out) (loadTests f p) w)
 
-  pub load-tests : (r : ℕ) → roomShort out ≡ false → r ≡ first (loadTests f) → r ≡ loadRefusal f out
+  pub load-tests : (r : ℕ) → roomShort out ≡ false → r ≡ first (loadTests f p) → r ≡ loadRefusal f p out
   unfolding loadRefusal
-  load-tests r w e = e ∙ sym (first-skip (21, roomShort out) (loadTests f) w)
+  load-tests r w e = e ∙ sym (first-skip (21, roomShort out) (loadTests f p) w)
 
   pub load-refused
-      : (r : ℕ) → r ≡ loadRefusal f out → (r ≡ 0 → ⊥)
-      → (record { refusal = r; header = noHeader } ≡ loadReply f out) × (out ≡ loadArrays f out)
+      : (r : ℕ) → r ≡ loadRefusal f p out → (r ≡ 0 → ⊥)
+      → (record { refusal = r; header = noHeader } ≡ loadReply f p out) × (out ≡ loadArrays f p out)
   unfolding loadReply loadArrays arraysAfter
   load-refused r e n = (rw (← e) (sym (refused r _ _ n)), rw (← e) (sym (refused r _ _ n)))
 
   -- with room, the file's tests answer
   pub load-later
       : roomShort out ≡ false
-      → (loadAnswer (first (loadTests f)) (loadedHeader f) ≡ loadReply f out) × (loadedOver f out ≡ loadArrays f out)
+      → (loadAnswer (first (loadTests f p)) (loadedHeader f p) ≡ loadReply f p out) × (loadedOver f p out ≡ loadArrays f p out)
   unfolding loadReply loadArrays loadedOver
   load-later w =
-      let same : first (loadTests f) ≡ loadRefusal f out = load-tests (first (loadTests f)) w refl in
-      (ap (λ r. loadAnswer r (loadedHeader f)) same, ap (λ r. arraysAfter r (table (loadedHeader f) (loadedArrays f)) out) same)
+      let same : first (loadTests f p) ≡ loadRefusal f p out = load-tests (first (loadTests f p)) w refl in
+      (ap (λ r. loadAnswer r (loadedHeader f p)) same, ap (λ r. arraysAfter r (table (loadedHeader f p) (loadedArrays f p)) out) same)
 
 -- the saved form does not read the adjustments
 pub save-written
-    : (h : Header) (t e b c x : List ℕ) → Sound h (arrays t e b c)
+    : (h : Header) (t e b c x : List ℕ) → Formed h (arrays t e b c)
     → over (saved (table h (arrays t e b []))) x ≡ over (saved (table h (arrays t e b c))) x
 save-written h t e b c x s =
     ap (λ f. over f x)

@@ -21,6 +21,7 @@ ghost use Rattle.model.specs.Calls.{
   loadReply,
   loadArrays,
 };
+use model::limits::MAX_CAPACITY;
 use model::reply::BinSizeReply;
 use model::reply::FindReply;
 use model::reply::LoadReply;
@@ -32,24 +33,32 @@ use model::reply::SaveReply;
 use model::reply::TableReply;
 use model::table::Header;
 
-// A fresh map: writes the table of `buckets` in `bins` to the four arrays.
+// A fresh map: writes the table of `buckets` in `bins` of the given capacity to the four arrays.
 pub fn initial(
     buckets: u32,
     bins: u32,
+    capacity: u32,
     tops: &mut [u32],
     ends: &mut [u32],
     blocks: &mut [u32],
     adjustments: &mut [u32],
 ) -> TableReply
-    ensures { λ r. ⌜ r ≡ initialReply (sizes buckets bins) (given tops ends blocks adjustments) ⌝ }
-    ensures { λ _. ⌜ left tops ends blocks adjustments ≡ initialArrays (sizes buckets bins) (given tops ends blocks adjustments) ⌝ }
+    ensures { λ r. ⌜ r ≡ initialReply (sizes buckets bins) capacity (given tops ends blocks adjustments) ⌝ }
+    ensures { λ _.
+        ⌜ left tops ends blocks adjustments ≡ initialArrays (sizes buckets bins) capacity (given tops ends blocks adjustments) ⌝ }
 {
     if sizes::room_short(tops, ends, blocks, adjustments) {
         return sizes::refused_table(21);
     }
+    if sizes::is_outside(MAX_CAPACITY, capacity) {
+        return sizes::refused_table(30);
+    }
     let wrong = sizes::size_refusal(buckets, bins);
     if wrong != 0 {
         return sizes::refused_table(wrong);
+    }
+    if sizes::overfull(capacity, buckets, bins) {
+        return sizes::refused_table(31);
     }
     sizes::write_initial(buckets, bins, tops, ends, blocks, adjustments);
     TableReply {
@@ -57,6 +66,7 @@ pub fn initial(
         moved: 0,
         header: Header {
             buckets,
+            capacity,
             block_count: 1,
             interval_count: 1,
         },
@@ -279,30 +289,32 @@ pub fn save(
     SaveReply { refusal: 0, length }
 }
 
-// The table of a saved map, written to the four arrays; the adjustments are worked out.
+// The table of a saved map, with the given capacity, written to the four arrays; the adjustments are worked out.
 pub fn load(
     bytes: &[u8],
+    capacity: u32,
     tops: &mut [u32],
     ends: &mut [u32],
     blocks: &mut [u32],
     adjustments: &mut [u32],
 ) -> LoadReply
-    ensures { λ r. ⌜ r ≡ loadReply (now (bytes .entry)) (given tops ends blocks adjustments) ⌝ }
-    ensures { λ _. ⌜ left tops ends blocks adjustments ≡ loadArrays (now (bytes .entry)) (given tops ends blocks adjustments) ⌝ }
+    ensures { λ r. ⌜ r ≡ loadReply (now (bytes .entry)) capacity (given tops ends blocks adjustments) ⌝ }
+    ensures { λ _. ⌜ left tops ends blocks adjustments ≡ loadArrays (now (bytes .entry)) capacity (given tops ends blocks adjustments) ⌝ }
 {
     if sizes::room_short(tops, ends, blocks, adjustments) {
         return refused_load(21);
     }
-    file_load::loaded(bytes, tops, ends, blocks, adjustments)
+    file_load::loaded(bytes, capacity, tops, ends, blocks, adjustments)
 }
 
 fn refused_load(refusal: u32) -> LoadReply
-    ensures { λ r. ⌜ r ≡ record { refusal = refusal; header = record { buckets = 0; «block_count» = 0; «interval_count» = 0 } } ⌝ }
+    ensures { λ r. ⌜ r ≡ record { refusal = refusal; header = record { buckets = 0; capacity = 0; «block_count» = 0; «interval_count» = 0 } } ⌝ }
 {
     LoadReply {
         refusal,
         header: Header {
             buckets: 0,
+            capacity: 0,
             block_count: 0,
             interval_count: 0,
         },

@@ -1,4 +1,4 @@
--- Laws of finding in a sound table: a bin's block and size, and the search for a rank. Assumes nothing.
+-- Laws of finding in a formed table: a bin's block and size, and the search for a rank. Assumes nothing.
 use Prim.Native.Nat.{ℕ, suc, _+_, _-_, _*_, _/_, _%_, _^_, _≤_, _<_}
 use mathlib.Core.Path.{_≡_, refl, ap, sym, _∙_}
 use mathlib.Core.Logic.{_⊎_, ⊎-elim}
@@ -16,7 +16,7 @@ use Rattle.model.specs.Table.{Shape, Table, firstBin, Arrays, bins, shape, tabl
 use Rattle.model.specs.Search.{blockOfBin, includes, holder, rankAt, foundOf, heldAt, foundAt}
 use Rattle.model.specs.Due.{due}
 use Rattle.model.specs.Refusal.{first, binPast, searched}
-use Rattle.model.specs.Sound.{Sound}
+use Rattle.model.specs.Sound.{Formed}
 use Rattle.model.specs.Calls.{answer, binSizeAnswer, binSizeTests, findAnswer, findTests}
 use Rattle.model.specs.declared.table.Header.{Header}
 use Rattle.model.specs.declared.search.Holder.the-variants.{In, Nothing}
@@ -130,7 +130,7 @@ module _ (a : Arrays) (count j r : ℕ) where
 
 -- THE SIZE OF A BIN, where n is the number of bins
 
-pub bins-some : (h : Header) (a : Arrays) → Sound h a → (n : ℕ) → n ≡ bins (table h a) → 1 ≤ n
+pub bins-some : (h : Header) (a : Arrays) → Formed h a → (n : ℕ) → n ≡ bins (table h a) → 1 ≤ n
 bins-some h a s n e =
     omega (
       arith,
@@ -148,7 +148,7 @@ size-past h a n y e l = rw (le-leb (bins (table h a)) y (omega arith))
 abbrev sized : ℕ → ℕ → Shape
 sized b n = record { buckets = b; bins = n }
 
-module _ (h : Header) (a : Arrays) (s : Sound h a) (n y : ℕ) (e : n ≡ bins (table h a)) (l : y < n) where
+module _ (h : Header) (a : Arrays) (s : Formed h a) (n y : ℕ) (e : n ≡ bins (table h a)) (l : y < n) where
   size-answer
       : (v : ℕ) → v ≡ due (shape (table h a)) y
       → record { refusal = 0; buckets = v } ≡ binSizeAnswer (first (binSizeTests (table h a) y)) (table h a) y
@@ -178,7 +178,7 @@ rank-fits p d m l k n =
 
 -- the bucket of a rank that an interval includes is below B
 pub bucket-below
-    : (h : Header) (a : Arrays) → Sound h a → (i j r : ℕ) → i < h .«interval_count» → Including a i j r
+    : (h : Header) (a : Arrays) → Formed h a → (i j r : ℕ) → i < h .«interval_count» → Including a i j r
     → r + getD (a .adjustments) i 0 < h .buckets
 unfolding before
 bucket-below h a s i j r l c =
@@ -190,7 +190,7 @@ bucket-below h a s i j r l c =
     )
 
 module _
-    (h : Header) (a : Arrays) (s : Sound h a)
+    (h : Header) (a : Arrays) (s : Formed h a)
     (y p : ℕ) (l : y < bins (table h a))
     (block first : ℕ)
     (e : block ≡ blockOfBin (take (h .«block_count») (a .tops)) y)

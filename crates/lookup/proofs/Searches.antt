@@ -1,4 +1,4 @@
--- Laws of placing in a sound table: the search for a bucket's interval, and the bin and position. Assumes nothing.
+-- Laws of placing in a formed table: the search for a bucket's interval, and the bin and position. Assumes nothing.
 use Prim.Native.Nat.{ℕ, zero, suc, _+_, _-_, _≤_, _<_}
 use mathlib.Core.Path.{_≡_, refl, ap, ap₂, sym, _∙_}
 use mathlib.Core.Logic.{⊎-elim}
@@ -12,7 +12,7 @@ use Rattle.model.specs.Table.{Interval, interval, Table, firstBin, blockBins, A
 use Rattle.model.specs.Place.{binOf, positionOf}
 use Rattle.model.specs.Search.{intervalAt, indexOf, located, placeOf, placeAt}
 use Rattle.model.specs.Refusal.{adjustmentOf, bucketPast}
-use Rattle.model.specs.Sound.{Sound}
+use Rattle.model.specs.Sound.{Formed}
 use Rattle.model.specs.declared.table.Header.{Header}
 use Rattle.model.specs.declared.search.Located.the-variants.{At, Outside}
 use Rattle.model.proofs.Counts.{below-or}
@@ -41,7 +41,7 @@ index-from f (suc n) i (suc m) x l before after =
     (λ k d. rw (next k) at (before (suc k) (omega arith)))
     (rw (next m) at after)))
 
-module _ (h : Header) (a : Arrays) (s : Sound h a) where
+module _ (h : Header) (a : Arrays) (s : Formed h a) where
   -- an adjustment is at most its interval's start
   pub adjustment-below : (i : ℕ) → i < h .«interval_count» → getD (a .adjustments) i 0 ≤ before (a .ends) i
   unfolding adjustmentOf
@@ -64,9 +64,9 @@ module _ (h : Header) (a : Arrays) (s : Sound h a) where
       (rw (zero-add i) e))
       (rank-at h a (s .endsRise) i x l b e))
 
--- a sound table as the search reads it
-pub sound-locatable : (h : Header) (a : Arrays) → Sound h a → Locatable h (a .ends) (a .adjustments)
-sound-locatable h a s =
+-- a formed table as the search reads it
+pub formed-locatable : (h : Header) (a : Arrays) → Formed h a → Locatable h (a .ends) (a .adjustments)
+formed-locatable h a s =
     record {
       some = s .someIntervals;
       rising = record { long = s .endsLong; rise = s .endsRise };
@@ -94,7 +94,7 @@ pub record Reached (h : Header) (a : Arrays) (i : ℕ) : Type 0 where
   pub block : intervalAt (table h a) i .block ≡ getD (a .blocks) i 0
   pub blockBelow : getD (a .blocks) i 0 < h .«block_count»
 
-pub reached : (h : Header) (a : Arrays) → Sound h a → (x i r : ℕ) → located (table h a) x ≡ At i r → Reached h a i
+pub reached : (h : Header) (a : Arrays) → Formed h a → (x i r : ℕ) → located (table h a) x ≡ At i r → Reached h a i
 reached h a s x i r e =
     ⊎-elim
     (λ inside.

@@ -19,7 +19,7 @@ pub record Among (ends : List ℕ) (k bucket low count : ℕ) : Type 0 where
   pub from : before ends low ≤ bucket
   pub to : bucket < before ends (low + count)
 
--- the ends and adjustments of a sound table, as the search for a bucket's interval reads them
+-- the ends and adjustments of a formed table, as the search for a bucket's interval reads them
 pub record Locatable (h : Header) (ends adjustments : List ℕ) : Type 0 where
   pub some : 1 ≤ h .«interval_count»
   pub rising : Ends ends (h .«interval_count»)

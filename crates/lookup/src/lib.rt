@@ -1,15 +1,15 @@
-// What reads a sound table. Nothing here checks it again.
+// What reads a formed table. Nothing here checks it again.
 ghost use Prim.Native.Nat.{ℕ, _+_, _^_, _<_, _≤_};
 ghost use mathlib.Core.Logic.{_⊎_};
 ghost use mathlib.Core.List.{List};
 ghost use mathlib.Core.Path.{_≡_};
 ghost use lib.ListN.{length, getD, take};
-ghost use Rattle.model.specs.Lent.{lent, LentSound, TopsSound, tableGiven, tableNow};
+ghost use Rattle.model.specs.Lent.{lent, LentFormed, TopsFormed, tableGiven, tableNow};
 ghost use Rattle.model.specs.Table.{arrays, bins as binsOf, firstBin};
 ghost use Rattle.model.specs.Place.{binOf, positionOf};
 ghost use Rattle.model.specs.Search.{located, placeAt, blockOfBin, holder, foundAt};
 ghost use Rattle.model.specs.Refusal.{first};
-ghost use Rattle.model.specs.Sound.{Sound};
+ghost use Rattle.model.specs.Sound.{Formed};
 ghost use Rattle.model.specs.Calls.{findAnswer, findTests, binSizeAnswer, binSizeTests};
 ghost use Rattle.lookup.specs.Search.{Among, Ends, Locatable, intervalsOf};
 use model::reply::BinSizeReply;
@@ -61,7 +61,7 @@ fn locate(h: Header, ends: &[u32], adjustments: &[u32], bucket: u32) -> Located
     ensures { λ r.
         ⌜
         ((tops blocks : List ℕ)
-        → Sound h (arrays tops (now (ends .entry)) blocks (now (adjustments .entry)))
+        → Formed h (arrays tops (now (ends .entry)) blocks (now (adjustments .entry)))
         → r ≡ located (lent h tops (now (ends .entry)) blocks (now (adjustments .entry))) bucket)
         ⌝ }
 {
@@ -106,7 +106,7 @@ pub fn placed(
     adjustments: &[u32],
     bucket: u32,
 ) -> PlaceReply
-    requires { ⌜ LentSound h tops ends blocks adjustments ⌝ }
+    requires { ⌜ LentFormed h tops ends blocks adjustments ⌝ }
     ensures { λ r. ⌜ r ≡ placeAt (tableGiven h tops ends blocks adjustments) bucket ⌝ }
 {
     let Located::At { interval, rank } = locate(h, ends, adjustments, bucket) else {
@@ -119,10 +119,10 @@ pub fn placed(
     place_in(tops, blocks[interval] as usize, rank)
 }
 
-// The number of buckets in a bin, or refusal 7. A bin of a sound table has its due size.
+// The number of buckets in a bin, or refusal 7. A bin of a formed table has its due size.
 pub fn sized(h: Header, tops: &[u32], bin: u32) -> BinSizeReply
-    requires { ⌜ TopsSound h (now tops) ⌝ }
-    ensures { λ r. ⌜ ((ends blocks adjustments : List ℕ) → Sound h (arrays (now (tops .entry)) ends blocks adjustments)
+    requires { ⌜ TopsFormed h (now tops) ⌝ }
+    ensures { λ r. ⌜ ((ends blocks adjustments : List ℕ) → Formed h (arrays (now (tops .entry)) ends blocks adjustments)
         → r ≡ binSizeAnswer (first (binSizeTests (lent h (now (tops .entry)) ends blocks adjustments) bin))
         (lent h (now (tops .entry)) ends blocks adjustments) bin) ⌝ }
 {
@@ -205,7 +205,7 @@ fn bucket_at(
     bin: u32,
     position: u32,
 ) -> FindReply
-    requires { ⌜ LentSound h tops ends blocks adjustments ⌝ }
+    requires { ⌜ LentFormed h tops ends blocks adjustments ⌝ }
     requires { ⌜ bin < binsOf (tableNow h tops ends blocks adjustments) ⌝ }
     ensures { λ r. ⌜ r ≡ foundAt (tableGiven h tops ends blocks adjustments) bin position ⌝ }
 {
@@ -235,7 +235,7 @@ pub fn found(
     bin: u32,
     position: u32,
 ) -> FindReply
-    requires { ⌜ LentSound h tops ends blocks adjustments ⌝ }
+    requires { ⌜ LentFormed h tops ends blocks adjustments ⌝ }
     ensures { λ r.
         ⌜
         r ≡ findAnswer (first (findTests (tableGiven h tops ends blocks adjustments) bin position))

@@ -7,7 +7,7 @@ use native.Mathlib.Omega.{arith}
 use lib.ListN.{length, take, drop}
 use lib.Seq.{sets, length-sets}
 use Rattle.model.specs.Table.{Table, Arrays, table}
-use Rattle.model.specs.Sound.{Sound}
+use Rattle.model.specs.Sound.{Formed}
 use Rattle.model.specs.Console.{read, commandAnswer}
 use Rattle.model.specs.declared.command.Command.the-variants.{Where}
 use Rattle.lines.specs.Words.{upToFeed, AsksFor, AsksForNone, byAsked}
@@ -122,8 +122,8 @@ module _
     (m : Machine) (one two this other : Arrays) (sane : Sane m (rack (m .state) one two)) (some : isEmpty (m .state .stage) ≡ false)
     (h : held (rack (m .state) one two) ≡ maps (m .state) this other)
   where
-    pub map-sound : Sound (m .state .current) this
-    map-sound = subst Right h (sane .right) .sound some
+    pub map-formed : Formed (m .state .current) this
+    map-formed = subst Right h (sane .right) .sound some .formed
 
     pub map-shows : m .listing ≡ false → Shows m (rack (m .state) one two) (table (m .state .current) this)
     unfolding mapOf

@@ -64,6 +64,7 @@ pub fn start() -> Machine
 {
     let none = Header {
         buckets: 0,
+        capacity: 0,
         block_count: 0,
         interval_count: 0,
     };

@@ -13,7 +13,7 @@ ghost use mathlib.Core.Path.{_≡_};
 ghost use mathlib.Core.Bool.{false};
 ghost use Prim.Native.Nat.{_≤_};
 ghost use lib.ListN.{length};
-ghost use Rattle.model.specs.Lent.{LentSound};
+ghost use Rattle.model.specs.Lent.{LentFormed};
 ghost use Rattle.machine.specs.Machine.{SaneNow, AnswersPlaces, AnswersWheres};
 
 // The place of the next line of a block, and how many bytes are in the buffer.
@@ -34,7 +34,7 @@ fn answer_places(
     put: usize,
     out: &mut [u8; OUT],
 ) -> Spot
-    requires { ⌜ LentSound h tops ends blocks adjustments × (from ≤ length (now block)) × (put ≤ length (now out)) ⌝ }
+    requires { ⌜ LentFormed h tops ends blocks adjustments × (from ≤ length (now block)) × (put ≤ length (now out)) ⌝ }
     ensures { λ r. ⌜ AnswersPlaces h tops ends blocks adjustments block from put out r ⌝ }
 {
     let mut line = from;

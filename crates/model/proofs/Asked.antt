@@ -9,7 +9,7 @@ use borrow.Author.Tests.{lt-ltb, le-ltb, eq-eqb, ne-eqb}
 use Rattle.model.specs.Basics.{if_then_else_, _and_, _or_}
 use Rattle.model.specs.Limits.{maxBlocks}
 use Rattle.model.specs.Table.{Shape, Table, bins}
-use Rattle.model.specs.Refusal.{first, shrinks, unchanged, blocksFull}
+use Rattle.model.specs.Refusal.{first, shrinks, unchanged, blocksFull, overfills}
 use Rattle.model.specs.Calls.{sizeTests, growthTests}
 use Rattle.model.proofs.Refusals.{first-found, first-after}
 
@@ -25,8 +25,10 @@ module _ (t : Table) (s : Shape) where
   asked-sizes n = first-found (sizeTests s) _ n
 
   module _ (sized : first (sizeTests s) ≡ 0) where
-    -- then come rules 3 to 5
-    asked-rest : first (growthTests t s) ≡ first ((3, shrinks t s) ∷ (4, unchanged t s) ∷ (5, blocksFull t s) ∷ [])
+    -- then come rules 3 to 5, and 31
+    asked-rest
+        : first (growthTests t s)
+        ≡ first ((3, shrinks t s) ∷ (4, unchanged t s) ∷ (5, blocksFull t s) ∷ (31, overfills (t .capacity) s) ∷ [])
     unfolding growthTests sizeTests
     asked-rest = first-after (sizeTests s) _ (omega arith) sized
 
@@ -52,7 +54,7 @@ module _ (t : Table) (s : Shape) where
             eq-eqb (length (t .tops)) maxBlocks g,
           )
 
-      pub asked-wider : bins t < s .bins → (length (t .tops) ≡ maxBlocks → ⊥) → first (growthTests t s) ≡ 0
+      pub asked-wider : bins t < s .bins → (length (t .tops) ≡ maxBlocks → ⊥) → first (growthTests t s) ≡ first ((31, overfills (t .capacity) s) ∷ [])
       unfolding first if_then_else_ shrinks _or_ unchanged blocksFull _and_
       asked-wider n g =
           asked-rest
@@ -76,7 +78,7 @@ module _ (t : Table) (s : Shape) where
             eq-eqb (s .bins) (bins t) n,
           )
 
-      pub asked-more : s .bins ≡ bins t → (s .buckets ≡ t .buckets → ⊥) → first (growthTests t s) ≡ 0
+      pub asked-more : s .bins ≡ bins t → (s .buckets ≡ t .buckets → ⊥) → first (growthTests t s) ≡ first ((31, overfills (t .capacity) s) ∷ [])
       unfolding first if_then_else_ shrinks _or_ unchanged blocksFull _and_
       asked-more n b =
           asked-rest

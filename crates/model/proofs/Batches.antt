@@ -2,13 +2,13 @@
 use Prim.Native.Nat.{ℕ, zero, suc, _+_, _-_, _*_, _≤_, _<_}
 use mathlib.Core.Path.{_≡_, refl, sym, _∙_, ap, subst}
 use mathlib.Core.Logic.{_⊎_, ⊎-elim, inl, inr}
-use mathlib.Core.Bool.{Bool, true, false, not, false≢true}
+use mathlib.Core.Bool.{true, false, not}
 use mathlib.Core.List.{List, [], _∷_, map}
 use native.Mathlib.Omega.{arith}
 use lib.ListN.{length, getD}
 use lib.Dec.{leb}
 use borrow.Author.Tests.{not-true, not-false, leb-true, leb-false, le-leb, lt-leb}
-use Rattle.model.specs.Basics.{all, before, joined}
+use Rattle.model.specs.Basics.{before, joined}
 use Rattle.model.specs.Table.{Table, Arrays, table}
 use Rattle.model.specs.Place.{bin, position, place, places}
 use Rattle.model.specs.Refusal.{Test, first, bucketPast, somePast, falls, resultShort}
@@ -17,9 +17,9 @@ use Rattle.model.specs.Calls.{tableTests, placeAnswer, placeReply, place
 use Rattle.model.specs.TableClaims.{FallsWhere, Single, SomeOutside, PlacesSingle}
 use Rattle.model.specs.declared.table.Header.{Header}
 use Rattle.model.proofs.Mapped.{mapped-length}
-use Rattle.model.proofs.Counts.{bit-cases, below-or, and-both, all-at}
-use Rattle.model.proofs.Refusals.{first-number, first-both, first-after, first-found, first-skip, first-here, first-none, accepted, not-clear}
-use Rattle.model.proofs.Rules.{all-fails, before-next}
+use Rattle.model.proofs.Counts.{bit-cases, below-or, all-at}
+use Rattle.model.proofs.Refusals.{first-number, first-other, first-both, first-after, first-found, first-skip, first-here, first-none, accepted, not-clear}
+use Rattle.model.proofs.Rules.{all-fails, all-fails-at, before-next}
 use Rattle.model.proofs.Tables.{getD-over}
 use Rattle.model.proofs.Soundness.{table-numbered}
 use Rattle.model.proofs.Searches.{placed, outside, place-answered}
@@ -46,16 +46,6 @@ places-at t (x ∷ xs) (suc i) l =
     (ap (λ k. getD numbers k 0) here ∙ rest .0, ap (λ k. getD numbers k 0) next ∙ rest .1)
 
 -- THE TESTS OF A LIST
-
--- a test of all numbers below n that fails, fails at one
-all-fails-at : (p : ℕ → Bool) (n : ℕ) → all p n ≡ false → (i : ℕ) × (i < n) × (p i ≡ false)
-unfolding all
-all-fails-at p zero e = absurd (false≢true (sym e))
-all-fails-at p (suc n) e =
-    ⊎-elim
-    (λ y. (n, omega arith, ⊎-elim (λ w. absurd (false≢true (sym e ∙ and-both (all p n) (p n) (y .0) (w .0)))) (λ w. w .0) (bit-cases (p n))))
-    (λ f. let at = all-fails-at p n (f .0) in (at .0, omega (arith, at .1), at .2))
-    (bit-cases (all p n))
 
 -- a list falls where a bucket is smaller than the one before it
 falls-at : (xs : List ℕ) → falls xs ≡ true → (i : ℕ) × (i + 1 < length xs) × (getD xs (i + 1) 0 < getD xs i 0)
@@ -120,14 +110,6 @@ last-decides t xs n e f =
     (bit-cases (somePast t xs))
 
 -- THE REFUSALS OF A LIST
-
--- another number than the first test's is given by those after it
-first-other : (n m : ℕ) (t : Bool) (ts : List Test) → (n ≡ m → ⊥) → first ((n, t) ∷ ts) ≡ m → (t ≡ false) × (first ts ≡ m)
-first-other n m t ts d e =
-    ⊎-elim
-    (λ h. absurd (d (sym (first-here (n, t) ts (h .0)) ∙ e)))
-    (λ h. (h .0, sym (first-skip (n, t) ts (h .0)) ∙ e))
-    (bit-cases t)
 
 -- every number of a list of tests is at least n; then so is the first one's that holds
 abbrev AtLeast : ℕ → List Test → Type 0

@@ -7,12 +7,12 @@ use Rattle.model.specs.Search.{intervalAt, indexOf, located, placeOf, pl
 use Rattle.model.specs.Due.{due, dueOfBins, dueOfBlock}
 use Rattle.model.specs.Refusal.{first, searched, outside, rises, headerOutside, arraysShort, topsWrong, endsWrong, blocksWrong, intervalsFull}
 use Rattle.model.specs.Refusal.{holdingsWrong, adjustmentOf, adjustmentsWrong, sizeOutside, fewBuckets, shrinks, unchanged}
-use Rattle.model.specs.Refusal.{blocksFull, bucketPast, binPast, roomShort}
+use Rattle.model.specs.Refusal.{blocksFull, overfull, someOverfull, overfills, bucketPast, binPast, capacityOutside, capacityWrong, roomShort}
 use Rattle.model.specs.Initial.{initial}
 use Rattle.model.specs.Expansion.{newTops, has, dueAfter, someFall, lastBlock, lengthened, gain, pieces, filled, plan, parts, planFor}
 use Rattle.model.specs.Expansion.{parted, movedAfter, extended, drained, expanded, differs, moved}
 use Rattle.model.specs.Relocations.{row, rowIf, rows, page}
-use Rattle.model.specs.Calls.{answer, tableTests, sizeTests, growthTests, tableReply, arraysAfter, initialRefusal}
+use Rattle.model.specs.Calls.{answer, tableTests, sizeTests, freshTests, growthTests, tableReply, arraysAfter, initialRefusal}
 use Rattle.model.specs.Calls.{initialReply, initialArrays, expandRefusal, expandReply, expandArrays, relocationsAnswer, bufferAfter}
 use Rattle.model.specs.Calls.{orderTests, rowsOf, relocationsRefusal, relocationsReply, relocationsRows, placeAnswer, findAnswer}
 use Rattle.model.specs.Calls.{binSizeAnswer, placeTests, findTests, binSizeTests, placeReply, findReply, binSizeReply, roomRefusal}
@@ -29,9 +29,9 @@ unfolding if_then_else_ _and_ _or_ bit sum count all from joined before bins sha
     over written intervalOf indexOf blockOf rank bin position held others size binSize intervalAt located placeOf placeAt
     blockOfBin rankAt includes holder foundOf heldAt foundAt due dueOfBins dueOfBlock first searched outside rises
     headerOutside arraysShort topsWrong endsWrong blocksWrong holdingsWrong adjustmentOf adjustmentsWrong sizeOutside
-    fewBuckets shrinks unchanged blocksFull bucketPast binPast roomShort initial newTops has dueAfter someFall
+    fewBuckets shrinks unchanged blocksFull overfull someOverfull overfills capacityOutside capacityWrong bucketPast binPast roomShort initial newTops has dueAfter someFall
     lastBlock lengthened gain pieces filled plan parts planFor parted movedAfter extended drained expanded differs moved
-    row rowIf rows page answer tableTests sizeTests growthTests intervalsFull tableReply arraysAfter initialRefusal
+    row rowIf rows page answer tableTests sizeTests freshTests growthTests intervalsFull tableReply arraysAfter initialRefusal
     initialReply initialArrays expandRefusal expandReply expandArrays relocationsAnswer bufferAfter orderTests rowsOf
     relocationsRefusal relocationsReply relocationsRows placeAnswer findAnswer binSizeAnswer placeTests findTests
     binSizeTests placeReply findReply binSizeReply roomRefusal roomReply saveTests saveRefusal saveReply saveBytes
@@ -46,9 +46,9 @@ unfolding if_then_else_ _and_ _or_ bit sum count all from joined before bins sha
     over written intervalOf indexOf blockOf rank bin position held others size binSize intervalAt located placeOf placeAt
     blockOfBin rankAt includes holder foundOf heldAt foundAt due dueOfBins dueOfBlock first searched outside rises
     headerOutside arraysShort topsWrong endsWrong blocksWrong holdingsWrong adjustmentOf adjustmentsWrong sizeOutside
-    fewBuckets shrinks unchanged blocksFull bucketPast binPast roomShort initial newTops has dueAfter someFall
+    fewBuckets shrinks unchanged blocksFull overfull someOverfull overfills capacityOutside capacityWrong bucketPast binPast roomShort initial newTops has dueAfter someFall
     lastBlock lengthened gain pieces filled plan parts planFor parted movedAfter extended drained expanded differs moved
-    row rowIf rows page answer tableTests sizeTests growthTests intervalsFull tableReply arraysAfter initialRefusal
+    row rowIf rows page answer tableTests sizeTests freshTests growthTests intervalsFull tableReply arraysAfter initialRefusal
     initialReply initialArrays expandRefusal expandReply expandArrays relocationsAnswer bufferAfter orderTests rowsOf
     relocationsRefusal relocationsReply relocationsRows placeAnswer findAnswer binSizeAnswer placeTests findTests
     binSizeTests placeReply findReply binSizeReply roomRefusal roomReply saveTests saveRefusal saveReply saveBytes

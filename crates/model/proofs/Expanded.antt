@@ -2,34 +2,38 @@
 use Prim.Native.Nat.{ℕ, _≤_, _<_}
 use mathlib.Core.Path.{_≡_, sym, _∙_, ap, subst}
 use mathlib.Core.Logic.{_⊎_, inl, inr, ⊎-elim}
-use mathlib.Core.Bool.{true, false}
-use mathlib.Core.List.{List, []}
+use mathlib.Core.Bool.{Bool, true, false}
+use mathlib.Core.List.{List, [], _∷_, _++_}
+use native.Mathlib.Decide.{ℕ-discrete}
 use native.Mathlib.Omega.{arith}
 use lib.ListN.{length}
 use borrow.Author.Tests.{ltb-false, eq-eqb}
 use Rattle.model.specs.Basics.{if_then_else_}
-use Rattle.model.specs.Limits.{maxIntervals}
-use Rattle.model.specs.Table.{Shape, Interval, Table, bins, shape, Arrays, table}
+use Rattle.model.specs.Limits.{maxCapacity, maxIntervals}
+use Rattle.model.specs.Table.{Shape, Interval, Table, bins, shape, Arrays, table, header, written}
 use Rattle.model.specs.Place.{intervalOf, blockOf, rank, size}
 use Rattle.model.specs.Due.{dueOfBlock}
-use Rattle.model.specs.Refusal.{first, roomShort, intervalsFull}
+use Rattle.model.specs.Refusal.{Test, first, overfills, intervalsFull, capacityOutside, roomShort}
+use Rattle.model.specs.Sound.{Sound}
 use Rattle.model.specs.Expansion.{newTops, dueAfter, someFall, filled, drained, expanded, moved}
-use Rattle.model.specs.Calls.{tableTests, growthTests, answer, tableReply, arraysAfter, expandRefusal, expandReply, expandArrays}
+use Rattle.model.specs.Calls.{tableTests, growthTests, answer, tableReply, arraysAfter, expandRefusal, expandReply, expandArrays, orderTests, relocationsRefusal}
 use Rattle.model.specs.TableClaims.{SoundIff}
-use Rattle.model.specs.ExpansionClaims.{ExpandSound, ExpandRead, Stays, ExpandStays}
+use Rattle.model.specs.ExpansionClaims.{ExpandSound, ExpandRead, CapacityKept, RefusedAlike, Stays, ExpandStays}
 use Rattle.model.specs.declared.table.Header.{Header}
 use Rattle.model.proofs.Counts.{bit-cases, below-or}
 use Rattle.model.proofs.Listed.{Placed, size-same, tells-same, tells-placed}
-use Rattle.model.proofs.Wells.{Well, tops-length, sound-well, well-sound}
-use Rattle.model.proofs.Growths.{Accepted, accepted, old-below, tops-last, new-rise, block-limits, none-falls, some-more, Grown}
+use Rattle.model.proofs.Wells.{Well, tops-length, formed-well, well-formed}
+use Rattle.model.proofs.Growths.{Accepted, accepted, roomy, old-below, tops-last, new-rise, block-limits, none-falls, some-more, Grown}
 use Rattle.model.proofs.Filled.{filledBlock, filled-old, filled-grown}
 use Rattle.model.proofs.Drained.{drainedBlock, drained-stays, drained-moves, drained-new, drained-kept, drained-grown}
-use Rattle.model.proofs.Refusals.{first-number, first-both}
+use Rattle.model.proofs.Refusals.{first-number, first-both, first-here, first-skip, first-none, first-found, first-after, Numbered, not-outside}
+use Rattle.model.proofs.Tables.{table-written}
+use Rattle.model.proofs.Capacities.{due-sound}
 use Rattle.model.proofs.Soundness.{table-numbered, growth-numbered, table-left}
 
 -- the new table with given intervals
 abbrev pub grownTable : Table → Shape → List Interval → Table
-grownTable t s is = record { buckets = s .buckets; tops = newTops t s; intervals = is }
+grownTable t s is = record { buckets = s .buckets; capacity = t .capacity; tops = newTops t s; intervals = is }
 
 -- its sizes are those asked for
 pub grown-shape
@@ -162,8 +166,8 @@ expanded-stays t s w a =
 
 pub expand-stays : ExpandStays
 unfolding table
-expand-stays h a s sound q =
-    rw (tops-length h a sound) at (expanded-stays (table h a) s (sound-well h a sound) (accepted (table h a) s q))
+expand-stays h a s formed q =
+    rw (tops-length h a formed) at (expanded-stays (table h a) s (formed-well h a formed) (accepted (table h a) s q))
 
 -- SOUNDNESS
 
@@ -181,16 +185,74 @@ expand-passes h a s out q =
     let (full, q₄) = first-number 8 (intervalsFull (table h a) s) [] (omega arith) q₃ in
     (tests, growth, ltb-false _ _ full)
 
+-- the table of a growth of a sound one, if it needs no more intervals than there may be, is sound
+pub grown-sound
+    : (h : Header) (a : Arrays) (s : Shape) (out : Arrays) → Sound h a → first (growthTests (table h a) s) ≡ 0
+    → length (expanded (table h a) s .intervals) ≤ maxIntervals
+    → Sound (header (expanded (table h a) s)) (written (expanded (table h a) s) out)
+unfolding header expanded capacityOutside table
+grown-sound h a s out sound growth limit =
+    let t = table h a in
+    let ok = accepted t s growth in
+    let old = formed-well h a (sound .formed) in
+    let w = expanded-well t s old ok limit in
+    due-sound _ _ (well-formed (expanded t s) w out)
+    (not-outside maxCapacity (t .capacity) (sound .someCapacity) (sound .capacityLimit))
+    (ap (overfills (t .capacity)) (ap shape (table-written (expanded t s) out) ∙ grown-shape t s (expanded t s .intervals) old ok) ∙ roomy t s growth)
+
 -- the table of an accepted growth is sound, as the check answers 0 just for sound tables
 pub expand-sound : SoundIff → ExpandSound
 unfolding expandReply expandArrays tableReply arraysAfter answer if_then_else_
 expand-sound sound-iff h a s out q =
     let t = table h a in
     let (tests, growth, limit) = expand-passes h a s out q in
-    let w = expanded-well t s (sound-well h a (sound-iff h a .0 tests)) (accepted t s growth) limit in
-    rw (eq-eqb (expandRefusal h a s out) 0 q) (well-sound (expanded t s) w out)
+    rw (eq-eqb (expandRefusal h a s out) 0 q) (grown-sound h a s out (sound-iff h a .0 tests) growth limit)
 
 -- and it is the table of its definition
 pub expand-read : ExpandRead
 unfolding expandReply expandArrays
 expand-read h a s out q = table-left (expandRefusal h a s out) (moved (table h a) (expanded (table h a) s)) _ out q
+
+-- which has the capacity of the old one
+pub capacity-kept : CapacityKept
+unfolding header expanded table
+capacity-kept h a s out q = ap (λ (g : Header). g .capacity) (expand-read h a s out q .0)
+
+-- REFUSALS
+
+-- two lists of tests that begin alike: a refusal by the beginning is that of both
+first-alike
+    : (ts us vs : List Test) → Numbered ts → (r : ℕ) → (first us ≡ r → first vs ≡ r) → first (ts ++ us) ≡ r → first (ts ++ vs) ≡ r
+first-alike ts us vs n r ends e =
+    elim (ℕ-discrete (first ts) 0) [
+      | yes z ↦ first-after ts vs n z ∙ ends (sym (first-after ts us n z) ∙ e)
+      | no z ↦ first-found ts vs z ∙ sym (first-found ts us z) ∙ e
+    ]
+
+-- the last test of a growth, and that of a move list, bring about 8 and 9 alone
+first-only : (k : ℕ) (b : Bool) (r : ℕ) → (r ≡ 0 → ⊥) → (r ≡ k → ⊥) → first ((k, b) ∷ []) ≡ r → ⊥
+first-only k b r none other e =
+    ⊎-elim
+    (λ t. other (sym e ∙ first-here (k, b) [] (t .0)))
+    (λ f. none (sym e ∙ first-skip (k, b) [] (f .0) ∙ first-none))
+    (bit-cases b)
+
+pub refused-alike : RefusedAlike
+unfolding expandRefusal relocationsRefusal orderTests tableTests
+refused-alike h a s out q r room none eight nine = (
+  λ e. alike _ _ (λ z. absurd (first-only 8 _ r none eight z)) (sym skip ∙ e),
+  λ e. skip ∙ alike _ _ (λ z. absurd (first-only 9 _ r none nine z)) e,
+)
+  where
+    t : Table
+    t = table h a
+
+    skip : expandRefusal h a s out ≡ first (tableTests h a ++ (growthTests t s ++ ((8, intervalsFull t s) ∷ [])))
+    skip = first-skip (21, roomShort out) _ room
+
+    alike
+        : (us vs : List Test) → (first us ≡ r → first vs ≡ r)
+        → first (tableTests h a ++ (growthTests t s ++ us)) ≡ r → first (tableTests h a ++ (growthTests t s ++ vs)) ≡ r
+    alike us vs ends =
+        first-alike (tableTests h a) _ _ (table-numbered h a) r
+        (first-alike (growthTests t s) us vs (growth-numbered t s) r ends)

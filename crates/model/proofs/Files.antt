@@ -11,8 +11,19 @@ use lib.Seq.{length-take-le, take-all, getD-take, getD-append-add}
 use borrow.Author.Tests.{le-ltb, eqb-true, eq-eqb, not-false}
 use Rattle.model.specs.Basics.{from, joined, before}
 use Rattle.model.specs.Table.{Arrays, table, written}
-use Rattle.model.specs.Refusal.{first, arraysShort, adjustmentOf, adjustmentsWrong, roomShort}
-use Rattle.model.specs.Sound.{Sound}
+use Rattle.model.specs.Refusal.{
+  first,
+  arraysShort,
+  topsWrong,
+  endsWrong,
+  blocksWrong,
+  holdingsWrong,
+  adjustmentOf,
+  adjustmentsWrong,
+  capacityWrong,
+  roomShort,
+}
+use Rattle.model.specs.Sound.{Formed, Sound}
 use Rattle.model.specs.Saved.{
   bytesOf,
   savedNumbers,
@@ -25,7 +36,7 @@ use Rattle.model.specs.Saved.{
   loadedArrays,
 }
 use Rattle.model.specs.Calls.{tableTests, saveTests, saveRefusal, saveReply, saveBytes, loadTests, loadRefusal, loadReply, loadArrays}
-use Rattle.model.specs.TableClaims.{LoadSound, LoadRead, Fits, SavedLength, savedFile, SavedLoaded, LoadedSaved}
+use Rattle.model.specs.TableClaims.{LoadSound, LoadRead, Fits, SavedLength, savedFile, withCapacity, SavedLoaded, LoadedSaved}
 use Rattle.model.specs.declared.table.Header.{Header}
 use Rattle.model.specs.declared.reply.SaveReply.{SaveReply}
 use Rattle.model.specs.declared.reply.LoadReply.{LoadReply}
@@ -58,15 +69,16 @@ use Rattle.model.proofs.Tables.{
   adjustment-alike,
   table-alike,
 }
+use Rattle.model.proofs.Rules.{not-all}
+use Rattle.model.proofs.Capacities.{formed-sound, sound-again, sound-capacity}
 use Rattle.model.proofs.Soundness.{
   Passes,
-  not-all,
-  passes-sound,
-  sound-passes,
+  passes-formed,
+  formed-passes,
   sound-iff,
   table-numbered,
-  sound-alike,
-  sound-written,
+  formed-alike,
+  formed-written,
   arrays-written,
 }
 
@@ -165,76 +177,94 @@ counted g i n = le-of-eq (sym (length-from g i n))
 
 -- the adjustments that loading works out are right
 pub loaded-adjusted
-    : (f : List ℕ) (i : ℕ) → i < loadedHeader f .«interval_count»
-    → getD (loadedArrays f .adjustments) i 0 ≡ adjustmentOf (loadedHeader f) (loadedArrays f) i
+    : (f : List ℕ) (p i : ℕ) → i < loadedHeader f p .«interval_count»
+    → getD (loadedArrays f p .adjustments) i 0 ≡ adjustmentOf (loadedHeader f p) (loadedArrays f p) i
 unfolding loadedArrays
-loaded-adjusted f i l =
-    getD-from (adjustmentOf (loadedHeader f) (readArrays f)) 0 (loadedHeader f .«interval_count») i 0 l
-    ∙ ap (adjustmentOf (loadedHeader f) (readArrays f)) (zero-add i)
-    ∙ adjustment-alike (loadedHeader f) (readArrays f) (loadedArrays f)
+loaded-adjusted f p i l =
+    getD-from (adjustmentOf (loadedHeader f p) (readArrays f p)) 0 (loadedHeader f p .«interval_count») i 0 l
+    ∙ ap (adjustmentOf (loadedHeader f p) (readArrays f p)) (zero-add i)
+    ∙ adjustment-alike (loadedHeader f p) (readArrays f p) (loadedArrays f p)
     (record { tops = λ j k. refl; ends = λ j k. refl; blocks = λ j k. refl })
     i l
 
-module _ (f : List ℕ) (out : Arrays) (e : loadRefusal f out ≡ 0) where
+-- a file that passes 11 to 15 gives a table that passes 11 to 16
+pub file-passes
+    : (f : List ℕ) (p : ℕ) → fileWrong f p ≡ false
+    → topsWrong (loadedHeader f p) (loadedArrays f p .tops) ≡ false
+    → endsWrong (loadedHeader f p) (loadedArrays f p .ends) ≡ false
+    → blocksWrong (loadedHeader f p) (loadedArrays f p .blocks) ≡ false
+    → holdingsWrong (loadedHeader f p) (loadedArrays f p) ≡ false
+    → Passes (loadedHeader f p) (loadedArrays f p)
+unfolding fileWrong arraysShort adjustmentsWrong loadedArrays readArrays
+file-passes f p file tops ends blocks holdings =
+    record {
+      header = or-left _ _ file;
+      arrays =
+          or-both _ _
+          (or-both _ _ (or-both _ _ (le-ltb _ _ (counted _ _ _)) (le-ltb _ _ (counted _ _ _))) (le-ltb _ _ (counted _ _ _)))
+          (le-ltb _ _ (counted _ _ _));
+      tops = tops;
+      ends = ends;
+      blocks = blocks;
+      holdings = holdings;
+      adjustments = not-all _ _ (λ i l. eq-eqb _ _ (loaded-adjusted f p i l));
+    }
+
+module _ (f : List ℕ) (p : ℕ) (out : Arrays) (e : loadRefusal f p out ≡ 0) where
   -- the tests of the file, and the first of them
-  load-tests : first (loadTests f) ≡ 0
+  load-tests : first (loadTests f p) ≡ 0
   unfolding loadRefusal
   load-tests = first-clear _ _ (λ z. omega arith) e .1
 
-  load-file : fileWrong f ≡ false
+  load-file : fileWrong f p ≡ false
   unfolding loadTests
   load-file = first-clear _ _ (λ z. omega arith) load-tests .0
 
   -- an accepted file has the length of its counts
-  pub load-length : length f ≡ savedLength (loadedHeader f .«block_count») (loadedHeader f .«interval_count»)
+  pub load-length : length f ≡ savedLength (loadedHeader f p .«block_count») (loadedHeader f p .«interval_count»)
   unfolding fileWrong
   load-length = eqb-true _ _ (not-false _ (or-right _ _ load-file))
 
   -- its table passes every test
-  pub load-passes : Passes (loadedHeader f) (loadedArrays f)
-  unfolding loadTests fileWrong arraysShort adjustmentsWrong loadedArrays readArrays
+  load-passes : Passes (loadedHeader f p) (loadedArrays f p) × (capacityWrong (loadedHeader f p) (loadedArrays f p) ≡ false)
+  unfolding loadTests
   load-passes =
-      let t = first-clear _ _ (λ z. omega arith) load-tests in
-      let u = first-clear _ _ (λ z. omega arith) (t .1) in
-      let v = first-clear _ _ (λ z. omega arith) (u .1) in
-      let w = first-clear _ _ (λ z. omega arith) (v .1) in
-      let x = first-clear _ _ (λ z. omega arith) (w .1) in
-      record {
-        header = or-left _ _ (t .0);
-        arrays =
-            or-both _ _
-            (or-both _ _ (or-both _ _ (le-ltb _ _ (counted _ _ _)) (le-ltb _ _ (counted _ _ _))) (le-ltb _ _ (counted _ _ _)))
-            (le-ltb _ _ (counted _ _ _));
-        tops = u .0;
-        ends = v .0;
-        blocks = w .0;
-        holdings = x .0;
-        adjustments = not-all _ _ (λ i l. eq-eqb _ _ (loaded-adjusted f i l));
-      }
+      let (file, e₂) = first-clear _ _ (λ z. omega arith) load-tests in
+      let (tops, e₃) = first-clear _ _ (λ z. omega arith) e₂ in
+      let (ends, e₄) = first-clear _ _ (λ z. omega arith) e₃ in
+      let (blocks, e₅) = first-clear _ _ (λ z. omega arith) e₄ in
+      let (holdings, e₆) = first-clear _ _ (λ z. omega arith) e₅ in
+      let (capacity, e₇) = first-clear _ _ (λ z. omega arith) e₆ in
+      (file-passes f p file tops ends blocks holdings, capacity)
 
   -- an accepted load replies with the file's header, and writes its table
-  pub load-header : loadReply f out .header ≡ loadedHeader f
+  pub load-header : loadReply f p out .header ≡ loadedHeader f p
   unfolding loadReply
-  load-header = ap (λ (v : LoadReply). v .header) (accepted (loadRefusal f out) _ _ e)
+  load-header = ap (λ (v : LoadReply). v .header) (accepted (loadRefusal f p out) _ _ e)
 
-  pub load-arrays : loadArrays f out ≡ written (table (loadedHeader f) (loadedArrays f)) out
+  pub load-arrays : loadArrays f p out ≡ written (table (loadedHeader f p) (loadedArrays f p)) out
   unfolding loadArrays
-  load-arrays = arrays-written (loadRefusal f out) (table (loadedHeader f) (loadedArrays f)) out e
+  load-arrays = arrays-written (loadRefusal f p out) (table (loadedHeader f p) (loadedArrays f p)) out e
 
 -- the table of an accepted `load` is sound
 pub load-sound : LoadSound
-load-sound f out e =
-    subst₂ Sound (sym (load-header f out e)) (sym (load-arrays f out e))
-    (sound-written (loadedHeader f) (loadedArrays f) out
-    (passes-sound (loadedHeader f) (loadedArrays f) (load-passes f out e)))
+unfolding loadedArrays readArrays
+load-sound f p out e =
+    let h = loadedHeader f p in
+    let a = loadedArrays f p in
+    let (passes, capacity) = load-passes f p out e in
+    let formed = passes-formed h a passes in
+    subst₂ Sound (sym (load-header f p out e)) (sym (load-arrays f p out e))
+    (sound-again h a (written (table h a) out) (formed-sound h a formed capacity) (formed-written h a out formed)
+    (table-again h a out (counted _ _ _)))
 
 -- and it is the table of the file
 pub load-read : LoadRead
 unfolding loadedArrays readArrays
-load-read f out e = (
-  load-header f out e ∙ sym (header-table (loadedHeader f) (loadedArrays f) (counted _ _ _)),
-  ap₂ table (load-header f out e) (load-arrays f out e)
-      ∙ table-again (loadedHeader f) (loadedArrays f) out (counted _ _ _),
+load-read f p out e = (
+  load-header f p out e ∙ sym (header-table (loadedHeader f p) (loadedArrays f p) (counted _ _ _)),
+  ap₂ table (load-header f p out e) (load-arrays f p out e)
+      ∙ table-again (loadedHeader f p) (loadedArrays f p) out (counted _ _ _),
 )
 
 -- THE NUMBERS OF A SAVED TABLE
@@ -338,8 +368,8 @@ rising-below : (xs : List ℕ) (n : ℕ) → Rising xs n → (i : ℕ) → i < n
 unfolding before
 rising-below xs n r i l = before-mono xs n r n (suc i) l (le-refl n)
 
--- those of a sound table are small
-pub numbers-small : (h : Header) (a : Arrays) → Sound h a → Small (numbers h a)
+-- those of a formed table are small
+pub numbers-small : (h : Header) (a : Arrays) → Formed h a → Small (numbers h a)
 numbers-small h a s zero = omega arith
 numbers-small h a s (suc zero) = omega arith
 numbers-small h a s (suc (suc zero)) = omega arith
@@ -355,7 +385,7 @@ numbers-small h a s (suc (suc (suc i))) =
 
 -- A SAVED TABLE
 
-module _ (h : Header) (a : Arrays) (s : Sound h a) where
+module _ (h : Header) (a : Arrays) (s : Formed h a) where
   -- its arrays are long enough
   long : Long h a
   long = record { tops = s .topsLong; ends = s .endsLong; blocks = s .blocksLong }
@@ -376,12 +406,13 @@ module _ (h : Header) (a : Arrays) (s : Sound h a) where
       ap (λ f. number f i) saved-bytes
       ∙ number-joined (numbers h a) (numbers-small h a s) i (omega (arith, numbers-length h a long))
 
-  pub saved-header : loadedHeader (saved (table h a)) ≡ h
+  pub saved-header : loadedHeader (saved (table h a)) (h .capacity) ≡ h
   unfolding loadedHeader
   saved-header =
       λ i.
       record {
         buckets = saved-number 0 (omega arith) i;
+        capacity = h .capacity;
         «block_count» = saved-number 1 (omega arith) i;
         «interval_count» = saved-number 2 (omega arith) i;
       }
@@ -403,7 +434,7 @@ module _ (h : Header) (a : Arrays) (buffer : List ℕ) (s : Sound h a) (room : F
   unfolding saveBytes
   save-file =
       ap₂ take
-      (ap (λ (v : SaveReply). v .length) save-reply ∙ sym (saved-length h a s))
+      (ap (λ (v : SaveReply). v .length) save-reply ∙ sym (saved-length h a (s .formed)))
       (accepted (saveRefusal h a buffer) _ _ save-accepted)
       ∙ take-over (saved (table h a)) buffer
 
@@ -412,7 +443,7 @@ unfolding savedLength
 save-length h a buffer s room = (
   ap (λ (v : SaveReply). v .refusal) (save-reply h a buffer s room),
   ap (λ (v : SaveReply). v .length) (save-reply h a buffer s room),
-  saved-length h a s,
+  saved-length h a (s .formed),
 )
 
 -- SAVED, THEN LOADED
@@ -429,9 +460,10 @@ pub record Keeps (f : List ℕ) (a : Arrays) (h : Header) : Type 0 where
 
 -- a saved table does
 pub saved-keeps : (h : Header) (a : Arrays) → Sound h a → Keeps (saved (table h a)) a h
-saved-keeps h a s =
+saved-keeps h a sound =
+    let s = sound .formed in
     record {
-      sound = s;
+      sound = sound;
       fits = saved-length h a s;
       tops = λ j l. sym (saved-number h a s (3 + j) (omega arith) ∙ numbers-top h a (long h a s) j l);
       ends =
@@ -444,9 +476,9 @@ saved-keeps h a s =
     }
 
 -- such a file, with the header that it says
-module _ (f : List ℕ) (a : Arrays) (k : Keeps f a (loadedHeader f)) where
+module _ (f : List ℕ) (p : ℕ) (a : Arrays) (k : Keeps f a (loadedHeader f p)) where
   -- what is loaded is alike, with the same adjustments, so it passes, is accepted, and gives the same table
-  loaded-alike : Alike (loadedHeader f) a (loadedArrays f)
+  loaded-alike : Alike (loadedHeader f p) a (loadedArrays f p)
   unfolding loadedArrays readArrays
   loaded-alike =
       record {
@@ -456,60 +488,77 @@ module _ (f : List ℕ) (a : Arrays) (k : Keeps f a (loadedHeader f)) where
       }
 
   loaded-adjustments
-      : (i : ℕ) → i < loadedHeader f .«interval_count» → getD (a .adjustments) i 0 ≡ getD (loadedArrays f .adjustments) i 0
+      : (i : ℕ) → i < loadedHeader f p .«interval_count» → getD (a .adjustments) i 0 ≡ getD (loadedArrays f p .adjustments) i 0
   loaded-adjustments i l =
-      k .sound .adjusted i l
-      ∙ adjustment-alike (loadedHeader f) a (loadedArrays f) loaded-alike i l
-      ∙ sym (loaded-adjusted f i l)
+      k .sound .formed .adjusted i l
+      ∙ adjustment-alike (loadedHeader f p) a (loadedArrays f p) loaded-alike i l
+      ∙ sym (loaded-adjusted f p i l)
 
-  loaded-passes : Passes (loadedHeader f) (loadedArrays f)
+  loaded-formed : Formed (loadedHeader f p) (loadedArrays f p)
   unfolding loadedArrays readArrays
-  loaded-passes =
-      sound-passes (loadedHeader f) (loadedArrays f)
-      (sound-alike (loadedHeader f) a (loadedArrays f) (k .sound) loaded-alike
-      (counted _ _ _) (counted _ _ _) (counted _ _ _) (counted _ _ _) loaded-adjustments)
+  loaded-formed =
+      formed-alike (loadedHeader f p) a (loadedArrays f p) (k .sound .formed) loaded-alike
+      (counted _ _ _) (counted _ _ _) (counted _ _ _) (counted _ _ _) loaded-adjustments
 
-  loaded-accepted : (out : Arrays) → roomShort out ≡ false → loadRefusal f out ≡ 0
+  loaded-same : table (loadedHeader f p) (loadedArrays f p) ≡ table (loadedHeader f p) a
+  unfolding loadedArrays readArrays
+  loaded-same =
+      sym
+      (table-alike (loadedHeader f p) a (loadedArrays f p) loaded-alike (k .sound .formed .topsLong) (counted _ _ _) loaded-adjustments)
+
+  loaded-capacity : capacityWrong (loadedHeader f p) (loadedArrays f p) ≡ false
+  loaded-capacity =
+      sound-capacity (loadedHeader f p) (loadedArrays f p)
+      (sound-again (loadedHeader f p) a (loadedArrays f p) (k .sound) loaded-formed loaded-same)
+
+  loaded-accepted : (out : Arrays) → roomShort out ≡ false → loadRefusal f p out ≡ 0
   unfolding loadRefusal loadTests fileWrong
   loaded-accepted out r =
-      let p = loaded-passes in
+      let q = formed-passes (loadedHeader f p) (loadedArrays f p) loaded-formed in
       first-pass _ _ r
-      (first-pass _ _ (or-both _ _ (p .header) (not-clear _ (eq-eqb _ _ (k .fits))))
-      (first-pass _ _ (p .tops)
-      (first-pass _ _ (p .ends) (first-pass _ _ (p .blocks) (first-pass _ _ (p .holdings) first-none)))))
+      (first-pass _ _ (or-both _ _ (q .header) (not-clear _ (eq-eqb _ _ (k .fits))))
+      (first-pass _ _ (q .tops)
+      (first-pass _ _ (q .ends) (first-pass _ _ (q .blocks) (first-pass _ _ (q .holdings) (first-pass _ _ loaded-capacity first-none))))))
 
-  loaded-table : (out : Arrays) → roomShort out ≡ false → table (loadedHeader f) (loadArrays f out) ≡ table (loadedHeader f) a
+  loaded-table : (out : Arrays) → roomShort out ≡ false → table (loadedHeader f p) (loadArrays f p out) ≡ table (loadedHeader f p) a
   unfolding loadedArrays readArrays
   loaded-table out r =
-      ap (table (loadedHeader f)) (load-arrays f out (loaded-accepted out r))
-      ∙ table-again (loadedHeader f) (loadedArrays f) out (counted _ _ _)
-      ∙ sym (table-alike (loadedHeader f) a (loadedArrays f) loaded-alike (k .sound .topsLong) (counted _ _ _) loaded-adjustments)
+      ap (table (loadedHeader f p)) (load-arrays f p out (loaded-accepted out r))
+      ∙ table-again (loadedHeader f p) (loadedArrays f p) out (counted _ _ _)
+      ∙ loaded-same
 
--- a sound table, saved and loaded, is the same table
+-- a sound table, saved and loaded with its capacity, is the same table
 saved-again
     : (h : Header) (a out : Arrays) → Sound h a → roomShort out ≡ false
-    → (loadRefusal (saved (table h a)) out ≡ 0)
-    × (loadReply (saved (table h a)) out .header ≡ h)
-    × (table h (loadArrays (saved (table h a)) out) ≡ table h a)
+    → (loadRefusal (saved (table h a)) (h .capacity) out ≡ 0)
+    × (loadReply (saved (table h a)) (h .capacity) out .header ≡ h)
+    × (table h (loadArrays (saved (table h a)) (h .capacity) out) ≡ table h a)
 saved-again h a out s r =
-    let e = saved-header h a s in
-    let k : Keeps (saved (table h a)) a (loadedHeader (saved (table h a))) =
-    subst (Keeps (saved (table h a)) a) (sym e) (saved-keeps h a s) in
-    let z = loaded-accepted (saved (table h a)) a k out r in (
+    let f = saved (table h a) in
+    let p = h .capacity in
+    let e = saved-header h a (s .formed) in
+    let k : Keeps f a (loadedHeader f p) = subst (Keeps f a) (sym e) (saved-keeps h a s) in
+    let z = loaded-accepted f p a k out r in (
       z,
-      load-header (saved (table h a)) out z ∙ e,
-      subst (λ g. table g (loadArrays (saved (table h a)) out) ≡ table g a) e (loaded-table (saved (table h a)) a k out r),
+      load-header f p out z ∙ e,
+      subst (λ g. table g (loadArrays f p out) ≡ table g a) e (loaded-table f p a k out r),
     )
 
+-- its bytes do not depend on the capacity
+saved-whatever : (h : Header) (a : Arrays) (p : ℕ) → saved (table h a) ≡ saved (table (withCapacity p h) a)
+unfolding saved savedNumbers table
+saved-whatever h a p = refl
+
 pub saved-loaded : SavedLoaded
-saved-loaded h a buffer out s room r = rw (save-file h a buffer s room) (saved-again h a out s r)
+saved-loaded h a buffer p out s t room r =
+    rw (save-file h a buffer s room ∙ saved-whatever h a p) (saved-again (withCapacity p h) a out t r)
 
 -- LOADED, THEN SAVED
 
 -- the arrays of a file are long enough
-loaded-long : (f : List ℕ) → Long (loadedHeader f) (loadedArrays f)
+loaded-long : (f : List ℕ) (p : ℕ) → Long (loadedHeader f p) (loadedArrays f p)
 unfolding loadedArrays readArrays
-loaded-long f = record { tops = counted _ _ _; ends = counted _ _ _; blocks = counted _ _ _ }
+loaded-long f p = record { tops = counted _ _ _; ends = counted _ _ _; blocks = counted _ _ _ }
 
 -- all of a list that is counted out
 take-from : (g : ℕ → ℕ) (i n : ℕ) → take n (from g i n) ≡ from g i n
@@ -525,28 +574,28 @@ three-parts g i m n o =
 
 -- the numbers of a loaded table are those of the file
 loaded-numbers
-    : (f : List ℕ)
-    → numbers (loadedHeader f) (loadedArrays f)
+    : (f : List ℕ) (p : ℕ)
+    → numbers (loadedHeader f p) (loadedArrays f p)
     ≡ from (number f) 0
-    (suc (suc (suc (loadedHeader f .«block_count» + loadedHeader f .«interval_count» + loadedHeader f .«interval_count»))))
+    (suc (suc (suc (loadedHeader f p .«block_count» + loadedHeader f p .«interval_count» + loadedHeader f p .«interval_count»))))
 unfolding loadedArrays readArrays from loadedHeader
-loaded-numbers f =
+loaded-numbers f p =
     ap (λ (xs : List ℕ). number f 0 ∷ number f 1 ∷ number f 2 ∷ xs)
     (three-parts (number f) 3 (number f 1) (number f 2) (number f 2))
 
 -- an accepted file, loaded and saved, is the same bytes
 loaded-again
-    : (f : List ℕ) (out : Arrays) → ((i : ℕ) → i < length f → getD f i 0 < 256) → loadRefusal f out ≡ 0
-    → saved (table (loadReply f out .header) (loadArrays f out)) ≡ f
+    : (f : List ℕ) (p : ℕ) (out : Arrays) → ((i : ℕ) → i < length f → getD f i 0 < 256) → loadRefusal f p out ≡ 0
+    → saved (table (loadReply f p out .header) (loadArrays f p out)) ≡ f
 unfolding saved savedLength
-loaded-again f out s e =
-    ap saved (load-read f out e .1)
+loaded-again f p out s e =
+    ap saved (load-read f p out e .1)
     ∙ ap (λ xs. joined (map bytesOf xs))
-    (saved-numbers (loadedHeader f) (loadedArrays f) (loaded-long f) ∙ loaded-numbers f)
-    ∙ joined-numbers _ f (omega (arith, load-length f out e)) s
+    (saved-numbers (loadedHeader f p) (loadedArrays f p) (loaded-long f p) ∙ loaded-numbers f p)
+    ∙ joined-numbers _ f (omega (arith, load-length f p out e)) s
 
 pub loaded-saved : LoadedSaved
-loaded-saved f out buffer s e room = (
-  save-length _ _ buffer (load-sound f out e) room .0,
-  save-file _ _ buffer (load-sound f out e) room ∙ loaded-again f out s e,
+loaded-saved f p out buffer s e room = (
+  save-length _ _ buffer (load-sound f p out e) room .0,
+  save-file _ _ buffer (load-sound f p out e) room ∙ loaded-again f p out s e,
 )

@@ -25,7 +25,7 @@ use Rattle.model.specs.Search.{
   bucketAt,
 }
 use Rattle.model.specs.Calls.{findTests}
-use Rattle.model.specs.Sound.{Sound}
+use Rattle.model.specs.Sound.{Formed}
 use Rattle.model.specs.TableClaims.{FindPlaced, PlaceFound, FindRefused}
 use Rattle.model.specs.declared.table.Header.{Header}
 use Rattle.model.specs.declared.search.Holder.the-variants.{In, Nothing}
@@ -142,7 +142,7 @@ found-in h a r m l =
     (getD-from (entry a) 0 (h .«interval_count») m (interval 0 0 0) l)
     ∙ ap (λ m. record { refusal = 0; bucket = r + getD (a .adjustments) m 0 }) (zero-add m)
 
-module _ (h : Header) (a : Arrays) (s : Sound h a) where
+module _ (h : Header) (a : Arrays) (s : Formed h a) where
   -- an interval that includes a bucket's rank is the bucket's own
   including-own
       : (x i : ℕ) → x < h .buckets → i < h .«interval_count» → Including a i (blockOf (table h a) x) (rank (table h a) x)
@@ -240,7 +240,7 @@ rank-at-place
 unfolding rankAt
 rank-at-place tops y p j m block e = rw block (omega arith)
 
-module _ (h : Header) (a : Arrays) (s : Sound h a) (y p : ℕ) (l : y < bins (table h a)) where
+module _ (h : Header) (a : Arrays) (s : Formed h a) (y p : ℕ) (l : y < bins (table h a)) where
   -- a position below the bin's size has a bucket
   found-inside : p < binSize (table h a) y → foundAt (table h a) y p .refusal ≡ 0
   found-inside k =

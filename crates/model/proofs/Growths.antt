@@ -15,7 +15,7 @@ use Rattle.model.specs.Limits.{maxBuckets, maxBins, maxBlocks}
 use Rattle.model.specs.Table.{Shape, Interval, Table, bins, shape}
 use Rattle.model.specs.Place.{blockOf, held, size}
 use Rattle.model.specs.Due.{dueOfBlock}
-use Rattle.model.specs.Refusal.{first, sizeOutside, fewBuckets, shrinks, unchanged, blocksFull}
+use Rattle.model.specs.Refusal.{first, sizeOutside, fewBuckets, shrinks, unchanged, blocksFull, overfills}
 use Rattle.model.specs.Expansion.{newTops, has, dueAfter, someFall}
 use Rattle.model.specs.Calls.{sizeTests, growthTests}
 use Rattle.model.specs.Balance.{dueBelow, most}
@@ -24,7 +24,7 @@ use Rattle.model.proofs.Dues.{one-way, block-dues-below, dues-below, du
 use Rattle.model.proofs.Intervals.{Rising}
 use Rattle.model.proofs.Listed.{Tells, tells-placed, size-zero, size-other, sizes-all}
 use Rattle.model.proofs.Wells.{due-same, held-size, Well}
-use Rattle.model.proofs.Refusals.{first-number, or-split, inside}
+use Rattle.model.proofs.Refusals.{first-number, first-both, or-split, inside}
 use Rattle.model.proofs.Tables.{before-same}
 
 -- TESTS
@@ -68,6 +68,16 @@ accepted t s h =
       moreBins = ltb-false _ _ lessBins;
       blockRoom = λ l. eqb-false _ _ (and-false _ _ full (lt-ltb _ _ l));
     }
+
+-- and that no bin is due more than the capacity
+pub roomy : (t : Table) (s : Shape) → first (growthTests t s) ≡ 0 → overfills (t .capacity) s ≡ false
+unfolding growthTests sizeTests
+roomy t s h =
+    let (sized, h₂) = first-both (sizeTests s) _ (omega arith) h in
+    let (shrunk, h₃) = first-number 3 (shrinks t s) _ (omega arith) h₂ in
+    let (same, h₄) = first-number 4 (unchanged t s) _ (omega arith) h₃ in
+    let (full, h₅) = first-number 5 (blocksFull t s) _ (omega arith) h₄ in
+    first-number 31 (overfills (t .capacity) s) _ (omega arith) h₅ .0
 
 -- THE NEW TOPS
 

@@ -23,7 +23,7 @@ use Rattle.model.proofs.Refusals.{first-after}
 use Rattle.model.proofs.Searches.{place-answered, placed}
 use Rattle.model.proofs.Soundness.{sound-iff, table-numbered}
 use Rattle.model.proofs.Listed.{size-same}
-use Rattle.model.proofs.Wells.{Well, due-same, tops-length, sound-well}
+use Rattle.model.proofs.Wells.{Well, due-same, tops-length, formed-well}
 use Rattle.model.proofs.Growths.{Accepted, accepted, due-old, none-falls, length-either, Grown}
 use Rattle.model.proofs.Filled.{filledBlock, filled-grown}
 use Rattle.model.proofs.Drained.{drainedBlock, drained-grown}
@@ -56,10 +56,10 @@ expanded-held t s w a j l =
 
 pub old-holdings : OldHoldings
 unfolding table
-old-holdings h a s sound q j l =
+old-holdings h a s formed q j l =
     let t = table h a in
-    let below : j < length (t .tops) = omega (arith, tops-length h a sound) in
-    expanded-held t s (sound-well h a sound) (accepted t s q) j below
+    let below : j < length (t .tops) = omega (arith, tops-length h a formed) in
+    expanded-held t s (formed-well h a formed) (accepted t s q) j below
     ∙ due-old t s j below
     ∙ due-same s (t .tops) (a .tops) (h .«block_count») (λ i k. getD-take (h .«block_count») (a .tops) i 0 k) j l
 
@@ -94,7 +94,7 @@ moved-replies h a s out e =
     (sym (place-accepted h a sound x l))
     (sym
     (place-accepted _ _ (expand-is-sound h a s out e) x
-    (omega (arith, grows h a s sound growth .buckets, ap (λ (g : Header). g .buckets) new-header))
+    (omega (arith, grows h a s (sound .formed) growth .buckets, ap (λ (g : Header). g .buckets) new-header))
     ∙ ap (λ t. bin t x) new-table)))
 
 pub total-is-least : LeastTotal

@@ -13,8 +13,9 @@ pub mod Places
 pub mod Finds
 pub mod Searches
 pub mod Batches
-pub mod Soundness
 pub mod Rules
+pub mod Capacities
+pub mod Soundness
 pub mod Flags
 pub mod Holdings
 pub mod Files

@@ -67,9 +67,9 @@ unfolding _or_
 or-second true b h = refl
 or-second false b h = h
 
-pub file-short : (f : List ℕ) → length f < 12 → fileWrong f ≡ true
+pub file-short : (f : List ℕ) (p : ℕ) → length f < 12 → fileWrong f p ≡ true
 unfolding fileWrong savedLength
-file-short f l =
+file-short f p l =
     or-second _ _
     (ap not
-    (ne-eqb (length f) (savedLength (loadedHeader f .«block_count») (loadedHeader f .«interval_count»)) (λ e. omega arith)))
+    (ne-eqb (length f) (savedLength (loadedHeader f p .«block_count») (loadedHeader f p .«interval_count»)) (λ e. omega arith)))

@@ -16,7 +16,7 @@ use Rattle.model.specs.Table.{Shape, Table, bins, shape, firstBin, block
 use Rattle.model.specs.Place.{blockOf, bin, position, held, size}
 use Rattle.model.specs.Due.{dueOfBlock}
 use Rattle.model.specs.Refusal.{first, shrinks}
-use Rattle.model.specs.Sound.{Sound}
+use Rattle.model.specs.Sound.{Formed}
 use Rattle.model.specs.Expansion.{newTops, expanded, differs, moved}
 use Rattle.model.specs.Relocations.{rowIf, rows}
 use Rattle.model.specs.Calls.{sizeTests, growthTests}
@@ -144,14 +144,14 @@ after h a s = expanded (table h a) s
 -- the old blocks hold their new dues after a growth
 abbrev pub OldHoldings : Type 0
 OldHoldings =
-    (h : Header) (a : Arrays) (s : Shape) → Sound h a → first (growthTests (table h a) s) ≡ 0
+    (h : Header) (a : Arrays) (s : Shape) → Formed h a → first (growthTests (table h a) s) ≡ 0
     → (j : ℕ) → j < h .«block_count» → held (expanded (table h a) s) j (s .buckets) ≡ dueOfBlock s (a .tops) j
 
-module _ (h : Header) (a : Arrays) (s : Shape) (sound : Sound h a) where
+module _ (h : Header) (a : Arrays) (s : Shape) (formed : Formed h a) where
   -- the old blocks are those below G, and the first bin after them is n
   block-count : length (table h a .tops) ≡ h .«block_count»
   unfolding table
-  block-count = length-take-le (h .«block_count») (a .tops) (sound .topsLong)
+  block-count = length-take-le (h .«block_count») (a .tops) (formed .topsLong)
 
   bins-before : bins (table h a) ≡ before (a .tops) (h .«block_count»)
   unfolding bins table
@@ -166,7 +166,7 @@ module _ (h : Header) (a : Arrays) (s : Shape) (sound : Sound h a) where
       → (bin (after h a s) x ≡ bin (table h a) x) × (position (after h a s) x ≡ position (table h a) x)
   place-kept x l stays =
       let j = blockOf (table h a) x in
-      let below : j < length (table h a .tops) = omega (arith, block-below h a sound x l, block-count) in
+      let below : j < length (table h a .tops) = omega (arith, block-below h a formed x l, block-count) in
       same-place (table h a) (after h a s) x stays
       (first-bin-kept (table h a) s j (omega arith))
       (block-bins-kept (table h a) s j below)
@@ -190,7 +190,7 @@ module _ (h : Header) (a : Arrays) (s : Shape) (sound : Sound h a) where
       let y = bin (table h a) x in
       let z = bin (after h a s) x in (
         omega (arith, bit-not (eqb y z), bit-eq y z (sym (place-kept x l stays .0))),
-        bit-lt (blockOf (after h a s) x) (h .«block_count») (omega (arith, block-below h a sound x l)),
+        bit-lt (blockOf (after h a s) x) (h .«block_count») (omega (arith, block-below h a formed x l)),
       )
 
   -- one of the new block moves, and is in no old block
@@ -201,7 +201,7 @@ module _ (h : Header) (a : Arrays) (s : Shape) (sound : Sound h a) where
   new-bits x l e =
       let y = bin (table h a) x in
       let z = bin (after h a s) x in (
-        omega (arith, bit-not (eqb y z), bit-ne y z (λ same. omega (arith, place-new x e, bin-of h a sound x l))),
+        omega (arith, bit-not (eqb y z), bit-ne y z (λ same. omega (arith, place-new x e, bin-of h a formed x l))),
         bit-ge (blockOf (after h a s) x) (h .«block_count») (omega arith),
       )
 
@@ -213,7 +213,7 @@ module _ (h : Header) (a : Arrays) (s : Shape) (sound : Sound h a) where
         let third = first-both (sizeTests s) _ (omega arith) accepted .1 in
         let tests = or-split _ _ (first-number 3 _ _ (omega arith) third .0) in
         record {
-          some = omega (arith, bin-within h a sound 0 0 (sound .someBlocks) (some-bins h a sound 0 (sound .someBlocks)));
+          some = omega (arith, bin-within h a formed 0 0 (formed .someBlocks) (some-bins h a formed 0 (formed .someBlocks)));
           buckets = ltb-false _ _ (tests .0);
           bins = ltb-false _ _ (tests .1);
         }
@@ -223,8 +223,8 @@ module _ (h : Header) (a : Arrays) (s : Shape) (sound : Sound h a) where
     unfolding most shape size held
     old-held dues =
         sym (sizes-below (blockOf (after h a s)) (s .buckets) (h .«block_count»))
-        ∙ sum-ext _ _ (h .«block_count») (dues h a s sound accepted)
-        ∙ block-dues-below s (a .tops) (h .«block_count») (sound .topsRise)
+        ∙ sum-ext _ _ (h .«block_count») (dues h a s formed accepted)
+        ∙ block-dues-below s (a .tops) (h .«block_count») (formed .topsRise)
         ∙ ap (dueBelow s) (sym bins-before)
 
     module _ (stays : ExpandStays) where
@@ -236,7 +236,7 @@ module _ (h : Header) (a : Arrays) (s : Shape) (sound : Sound h a) where
           ⊎-elim
           (λ none. inl (none x l))
           (λ each. ⊎-elim (λ e. inl (e .1)) (λ e. inr e) (each .1 x (omega (arith, grows))))
-          (stays h a s sound accepted)
+          (stays h a s formed accepted)
 
       -- so the moved buckets and the old ones in old blocks are B
       moved-and-old
@@ -272,17 +272,17 @@ module _ (h : Header) (a : Arrays) (s : Shape) (sound : Sound h a) where
                 (λ e. bit-ge (blockOf (after h a s) (h .buckets + i)) (h .«block_count») (omega arith))
                 (each .1 (h .buckets + i) (omega arith))),
           ))
-          (stays h a s sound accepted)
+          (stays h a s formed accepted)
 
 -- a bucket that stays keeps its place, and the others go to the new block's bins
 pub expand-places : ExpandStays → ExpandPlaces
-expand-places stays h a s sound accepted x l =
+expand-places stays h a s formed accepted x l =
     ⊎-elim
-    (λ e. inl (place-kept h a s sound x l e))
-    (λ e. inr (place-new h a s sound x e, e))
-    (stays-or-new h a s sound accepted stays x l)
+    (λ e. inl (place-kept h a s formed x l e))
+    (λ e. inr (place-new h a s formed x e, e))
+    (stays-or-new h a s formed accepted stays x l)
 
 -- the moved count, and the rows
 pub moved-least : ExpandStays → OldHoldings → MovedLeast
-moved-least stays dues h a s sound accepted =
-    (moved-count h a s sound accepted stays dues, rows-counted (table h a) (expanded (table h a) s))
+moved-least stays dues h a s formed accepted =
+    (moved-count h a s formed accepted stays dues, rows-counted (table h a) (expanded (table h a) s))

@@ -1,4 +1,4 @@
--- Laws of places: the block of a bin, that every bin of a sound table holds its due size, and that the mapping is balanced.
+-- Laws of places: the block of a bin, that every bin of a formed table holds its due size, and that the mapping is balanced.
 -- Assumes nothing.
 use Prim.Native.Nat.{ℕ, zero, suc, _+_, _-_, _*_, _/_, _%_, min, _≤_, _<_}
 use mathlib.Core.Path.{_≡_, refl, sym, _∙_, ap}
@@ -32,7 +32,7 @@ use Rattle.model.specs.Place.{blockOf, rank, bin, held, size, binSize}
 use Rattle.model.specs.Search.{blockOfBin}
 use Rattle.model.specs.Due.{due, dueOfBins, dueOfBlock}
 use Rattle.model.specs.Balance.{dueBelow}
-use Rattle.model.specs.Sound.{Sound}
+use Rattle.model.specs.Sound.{Formed}
 use Rattle.model.specs.TableClaims.{SizeDue, TableBalanced}
 use Rattle.model.specs.declared.table.Header.{Header}
 use Rattle.model.proofs.Counts.{bit-lt, bit-ge, bit-le, bit-eq, bit-ne, below-or, sum-ext}
@@ -156,7 +156,7 @@ unfolding before
 before-take n xs zero l = refl
 before-take n xs (suc j) l = getD-take n xs j 0 l
 
-module _ (h : Header) (a : Arrays) (s : Sound h a) where
+module _ (h : Header) (a : Arrays) (s : Formed h a) where
   -- the tops of the table rise, and the last of them is the number of bins
   tops-rise : Rising (table h a .tops) (h .«block_count»)
   unfolding table

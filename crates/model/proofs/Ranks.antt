@@ -14,7 +14,7 @@ use Rattle.model.specs.Basics.{bit, sum, count, before}
 use Rattle.model.specs.Table.{Arrays, table}
 use Rattle.model.specs.Place.{blockOf, rank, held}
 use Rattle.model.specs.Refusal.{adjustmentOf}
-use Rattle.model.specs.Sound.{Sound}
+use Rattle.model.specs.Sound.{Formed}
 use Rattle.model.specs.declared.table.Header.{Header}
 use Rattle.model.proofs.Counts.{bit-cases, below-or, sum-suc, sum-split}
 use Rattle.model.proofs.Intervals.{block-at, rank-at, held-own, held-others}
@@ -73,7 +73,7 @@ entry-of xs (suc n) y l =
     (λ k. (n, omega arith, k, l))
     (below-or y (before xs n))
 
-module _ (h : Header) (a : Arrays) (s : Sound h a) where
+module _ (h : Header) (a : Arrays) (s : Formed h a) where
   -- the interval of a bucket
   pub interval-of
       : (x : ℕ) → x < h .buckets

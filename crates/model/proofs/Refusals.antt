@@ -84,6 +84,14 @@ pub first-here : (t : Test) (ts : List Test) → t .1 ≡ true → first (t ∷ 
 unfolding first if_then_else_
 first-here t ts h = rw h
 
+-- another number than the first test's is given by those after it
+pub first-other : (n m : ℕ) (t : Bool) (ts : List Test) → (n ≡ m → ⊥) → first ((n, t) ∷ ts) ≡ m → (t ≡ false) × (first ts ≡ m)
+first-other n m t ts d e =
+    ⊎-elim
+    (λ h. absurd (d (sym (first-here (n, t) ts (h .0)) ∙ e)))
+    (λ h. (h .0, sym (first-skip (n, t) ts (h .0)) ∙ e))
+    (bit-cases t)
+
 -- no number of the list is 0
 abbrev pub Numbered : List Test → Type 0
 Numbered [] = Unit

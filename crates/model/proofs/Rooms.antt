@@ -38,11 +38,11 @@ over-first (x ∷ xs) v l = refl
 
 -- the initial table written: one entry of each array
 pub initial-written
-    : (s : Shape) (a : Arrays) → Roomy a
+    : (s : Shape) (p : ℕ) (a : Arrays) → Roomy a
     → arrays (set (a .tops) 0 (s .bins)) (set (a .ends) 0 (s .buckets)) (set (a .blocks) 0 0) (set (a .adjustments) 0 0)
-    ≡ written (initial s) a
+    ≡ written (initial s p) a
 unfolding written initial
-initial-written s a r =
+initial-written s p a r =
     rw (
       over-first (a .tops) (s .bins) (omega arith),
       over-first (a .ends) (s .buckets) (omega arith),

@@ -13,7 +13,7 @@ use Rattle.model.specs.Basics.{if_then_else_, from, joined, before}
 use Rattle.model.specs.Table.{Shape, Interval, Table, Arrays, table, bins, shape, firstBin, blockBins}
 use Rattle.model.specs.Place.{blockOf, rank, bin, position, size}
 use Rattle.model.specs.Refusal.{first}
-use Rattle.model.specs.Sound.{Sound}
+use Rattle.model.specs.Sound.{Formed}
 use Rattle.model.specs.Expansion.{dueAfter, someFall, drained, expanded, differs}
 use Rattle.model.specs.Relocations.{row, rowIf, rows}
 use Rattle.model.specs.Calls.{growthTests}
@@ -25,7 +25,7 @@ use Rattle.model.proofs.Tables.{length-from, from-append, lentInterval,
 use Rattle.model.proofs.Listed.{size-zero, size-next, size-skip, size-most, size-own, size-other}
 use Rattle.model.proofs.Ranks.{block-below, rank-adjusted, rank-held}
 use Rattle.model.proofs.Places.{bin-of}
-use Rattle.model.proofs.Wells.{held-size, Well, tops-length, sound-well}
+use Rattle.model.proofs.Wells.{held-size, Well, tops-length, formed-well}
 use Rattle.model.proofs.Growths.{Accepted, accepted, before-old, top-new, none-falls, some-more}
 use Rattle.model.proofs.Filled.{filled-least}
 use Rattle.model.proofs.Drained.{drainedBlock, drained-stays, drained-moves, drained-grown}
@@ -157,43 +157,43 @@ lentBins a j = getD (a .tops) j 0 - before (a .tops) j
 
 -- an interval ends at B or before
 pub end-within
-    : (h : Header) (a : Arrays) → Sound h a → (i : ℕ) → i < h .«interval_count» → getD (a .ends) i 0 ≤ h .buckets
+    : (h : Header) (a : Arrays) → Formed h a → (i : ℕ) → i < h .«interval_count» → getD (a .ends) i 0 ≤ h .buckets
 unfolding before
-end-within h a sound i k =
+end-within h a formed i k =
     omega (
       arith,
-      before-mono (a .ends) (h .«interval_count») (sound .endsRise) (h .«interval_count») (suc i) k (le-refl _),
-      sound .lastEnd,
+      before-mono (a .ends) (h .«interval_count») (formed .endsRise) (h .«interval_count») (suc i) k (le-refl _),
+      formed .lastEnd,
     )
 
 -- the place of a bucket of interval i
 pub lent-place
-    : (h : Header) (a : Arrays) → Sound h a
+    : (h : Header) (a : Arrays) → Formed h a
     → (i x : ℕ) → i < h .«interval_count» → before (a .ends) i ≤ x → x < getD (a .ends) i 0
     → (bin (table h a) x
     ≡ lentFirst a (getD (a .blocks) i 0) + (x - getD (a .adjustments) i 0) % lentBins a (getD (a .blocks) i 0))
     × (position (table h a) x ≡ (x - getD (a .adjustments) i 0) / lentBins a (getD (a .blocks) i 0))
 unfolding bin position firstBin blockBins table
-lent-place h a sound i x k b e =
-    let block = block-at h a (sound .endsRise) i x k b e in
-    let ranked = rank-at h a (sound .endsRise) i x k b e in
-    let top = getD-take (h .«block_count») (a .tops) (getD (a .blocks) i 0) 0 (sound .blocksBelow i k) in
+lent-place h a formed i x k b e =
+    let block = block-at h a (formed .endsRise) i x k b e in
+    let ranked = rank-at h a (formed .endsRise) i x k b e in
+    let top = getD-take (h .«block_count») (a .tops) (getD (a .blocks) i 0) 0 (formed .blocksBelow i k) in
     let first =
     before-same (take (h .«block_count») (a .tops)) (a .tops) (h .«block_count»)
     (λ j l. getD-take (h .«block_count») (a .tops) j 0 l)
     (getD (a .blocks) i 0)
-    (le-of-lt (sound .blocksBelow i k)) in
+    (le-of-lt (formed .blocksBelow i k)) in
     (rw (block, ranked, top, first), rw (block, ranked, top, first))
 
-module _ (h : Header) (a : Arrays) (s : Shape) (sound : Sound h a) (ok : first (growthTests (table h a) s) ≡ 0) where
+module _ (h : Header) (a : Arrays) (s : Shape) (formed : Formed h a) (ok : first (growthTests (table h a) s) ≡ 0) where
   -- the rows are max(0, B - T)
   pub rows-least : length (rows (old h a) (new h a s)) ≡ least (shape (old h a)) s
-  rows-least = let (count, same) = moved-is-least h a s sound ok in same ∙ count
+  rows-least = let (count, same) = moved-is-least h a s formed ok in same ∙ count
 
   -- where no old block is due less there is none
   rows-filled : someFall (old h a) s ≡ false → length (rows (old h a) (new h a s)) ≡ 0
   rows-filled e =
-      let well = sound-well h a sound in
+      let well = formed-well h a formed in
       let sizes = accepted (old h a) s ok in
       rows-least ∙ filled-least (old h a) s well sizes (none-falls (old h a) s well sizes e)
 
@@ -205,17 +205,17 @@ module _ (h : Header) (a : Arrays) (s : Shape) (sound : Sound h a) (ok : first (
   -- a bucket of interval i: its rank
   module _ (i x : ℕ) (k : i < h .«interval_count») (b : before (a .ends) i ≤ x) (e : x < getD (a .ends) i 0) where
     old-inside : x < h .buckets
-    old-inside = omega (arith, end-within h a sound i k)
+    old-inside = omega (arith, end-within h a formed i k)
 
     old-rank
         : (blockOf (old h a) x ≡ getD (a .blocks) i 0)
         × (size (blockOf (old h a)) x (blockOf (old h a) x) + getD (a .adjustments) i 0 ≡ x)
     old-rank = (
-      block-at h a (sound .endsRise) i x k b e,
+      block-at h a (formed .endsRise) i x k b e,
       omega (
         arith,
-        rank-adjusted h a sound i x k b e,
-        rank-held h a sound x old-inside,
+        rank-adjusted h a formed i x k b e,
+        rank-held h a formed x old-inside,
         held-size (old h a) (blockOf (old h a) x) x,
       ),
     )
@@ -233,10 +233,10 @@ module _ (h : Header) (a : Arrays) (s : Shape) (sound : Sound h a) (ok : first (
     unfolding differs
     moves x l e =
         let place =
-        new-place (old h a) s (sound-well h a sound) (accepted (old h a) s ok) falls x _ (omega (arith, more)) e refl in
+        new-place (old h a) s (formed-well h a formed) (accepted (old h a) s ok) falls x _ (omega (arith, more)) e refl in
         rw
         (ne-eqb (bin (old h a) x) (bin (new h a s) x)
-        (λ q. omega (arith, place .0, bin-of h a sound x l .1)))
+        (λ q. omega (arith, place .0, bin-of h a formed x l .1)))
 
     stays
         : (x : ℕ) → x < h .buckets → drainedBlock (old h a) s x ≡ blockOf (old h a) x
@@ -244,11 +244,11 @@ module _ (h : Header) (a : Arrays) (s : Shape) (sound : Sound h a) (ok : first (
     unfolding differs
     stays x l e =
         let block =
-        drained-block (old h a) s (sound-well h a sound) (accepted (old h a) s ok) falls x (omega (arith, more)) in
+        drained-block (old h a) s (formed-well h a formed) (accepted (old h a) s ok) falls x (omega (arith, more)) in
         ⊎-elim
         (λ q. rw (eq-eqb (bin (old h a) x) (bin (new h a s) x) (sym (q .0))))
-        (λ q. absurd (omega (arith, q .1, block, block-below h a sound x l)))
-        (places-kept h a s sound ok x l)
+        (λ q. absurd (omega (arith, q .1, block, block-below h a formed x l)))
+        (places-kept h a s formed ok x l)
 
     -- a bucket of a rank below its block's due is of its old block
     kept
@@ -265,14 +265,14 @@ module _ (h : Header) (a : Arrays) (s : Shape) (sound : Sound h a) (ok : first (
     rows-size zero l = sym (size-zero (drainedBlock (old h a) s) (length (old h a .tops)))
     rows-size (suc m) l =
         let ih = rows-size m (omega arith) in
-        let below = block-below h a sound m l in
+        let below = block-below h a formed m l in
         ⊎-elim
         (λ k.
         let e = kept m l k in
         omega (
           arith,
           ap length (rows-stay (old h a) (new h a s) m (suc m) (omega arith) (λ x b c. only (differs (old h a) (new h a s)) x b c (stays m l e))),
-          size-skip (drainedBlock (old h a) s) m (length (old h a .tops)) (λ q. omega (arith, tops-length h a sound)),
+          size-skip (drainedBlock (old h a) s) m (length (old h a .tops)) (λ q. omega (arith, tops-length h a formed)),
         ))
         (λ k.
         let e = drained-moves (old h a) s m k in
@@ -326,8 +326,8 @@ module _ (h : Header) (a : Arrays) (s : Shape) (sound : Sound h a) (ok : first (
                 omega (
                   arith,
                   part-kept y l m,
-                  block-below h a sound y (old-inside i y k l (omega arith)),
-                  tops-length h a sound,
+                  block-below h a formed y (old-inside i y k l (omega arith)),
+                  tops-length h a formed,
                 )),
             rows-size (before (a .ends) i) (omega (arith, cut .after)),
             size-most (drainedBlock (old h a) s) (before (a .ends) i) (length (old h a .tops)),
@@ -346,9 +346,9 @@ module _ (h : Header) (a : Arrays) (s : Shape) (sound : Sound h a) (ok : first (
           ∷ []
       unfolding row
       part-row x c d =
-          let (at, place) = lent-place h a sound i x k (omega (arith, cut .after)) d in
+          let (at, place) = lent-place h a formed i x k (omega (arith, cut .after)) d in
           let (at′, place′) =
-          new-place (old h a) s (sound-well h a sound) (accepted (old h a) s ok) falls x (x - (p - rowsBefore h a s i))
+          new-place (old h a) s (formed-well h a formed) (accepted (old h a) s ok) falls x (x - (p - rowsBefore h a s i))
           (omega (arith, more, old-inside i x k (omega (arith, cut .after)) d))
           (part-gone x c d)
           (part-rank x c d) in

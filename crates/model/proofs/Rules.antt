@@ -2,7 +2,7 @@
 use Prim.Native.Nat.{ℕ, zero, suc, _+_, _-_, _≤_, _<_}
 use mathlib.Core.Path.{_≡_, refl, sym, _∙_, ap}
 use mathlib.Core.Logic.{⊎-elim}
-use mathlib.Core.Bool.{Bool, true, false, false≢true}
+use mathlib.Core.Bool.{Bool, true, false, not, false≢true}
 use mathlib.Core.List.{List}
 use native.Mathlib.Numerals.{add-one}
 use native.Mathlib.Omega.{arith}
@@ -21,10 +21,10 @@ use Rattle.model.specs.Refusal.{
   blocksWrong,
 }
 use Rattle.model.specs.declared.table.Header.{Header}
-use Rattle.model.proofs.Counts.{bit-cases, all-at}
+use Rattle.model.proofs.Counts.{bit-cases, and-both, all-at, all-holds}
 use Rattle.model.proofs.Dues.{rises-at}
 use Rattle.model.proofs.Intervals.{Rising}
-use Rattle.model.proofs.Refusals.{or-left, or-right, inside}
+use Rattle.model.proofs.Refusals.{or-left, or-right, not-clear, inside}
 
 -- TESTS
 
@@ -46,6 +46,23 @@ pub all-ext : (p q : ℕ → Bool) (n : ℕ) → ((i : ℕ) → i < n → p i �
 unfolding all
 all-ext p q zero e = refl
 all-ext p q (suc n) e = rw (all-ext p q n (λ i l. e i (omega arith)), e n (omega arith))
+
+-- a test of all numbers below n that fails, fails at one
+pub all-fails-at : (p : ℕ → Bool) (n : ℕ) → all p n ≡ false → (i : ℕ) × (i < n) × (p i ≡ false)
+unfolding all
+all-fails-at p zero e = absurd (false≢true (sym e))
+all-fails-at p (suc n) e =
+    ⊎-elim
+    (λ y. (n, omega arith, ⊎-elim (λ w. absurd (false≢true (sym e ∙ and-both (all p n) (p n) (y .0) (w .0)))) (λ w. w .0) (bit-cases (p n))))
+    (λ f. let at = all-fails-at p n (f .0) in (at .0, omega (arith, at .1), at .2))
+    (bit-cases (all p n))
+
+-- a negated test over all numbers below n, and the other way
+pub all-not : (p : ℕ → Bool) (n : ℕ) → not (all p n) ≡ false → (i : ℕ) → i < n → p i ≡ true
+all-not p n e = all-at p n (not-false (all p n) e)
+
+pub not-all : (p : ℕ → Bool) (n : ℕ) → ((i : ℕ) → i < n → p i ≡ true) → not (all p n) ≡ false
+not-all p n e = not-clear (all p n) (all-holds p n e)
 
 -- RISING LISTS
 

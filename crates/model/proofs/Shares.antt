@@ -28,9 +28,8 @@ use Rattle.model.specs.Expansion.{newTops, has, dueAfter, someFall}
 use Rattle.model.specs.Balance.{dueBelow}
 use Rattle.model.proofs.Counts.{below-or}
 use Rattle.model.proofs.Dues.{dues-below, dues-sum, block-closed}
-use Rattle.model.proofs.Intervals.{before-mono}
-use Rattle.model.proofs.Soundness.{not-all}
-use Rattle.model.proofs.Wells.{due-same, Well}
+use Rattle.model.proofs.Rules.{not-all}
+use Rattle.model.proofs.Wells.{due-same, Well, some-bins}
 use Rattle.model.proofs.Growths.{
   Accepted,
   tops-same,
@@ -110,17 +109,12 @@ module _ (s : Shape) (tops : List ℕ) where
 
 -- a table's own sizes are allowed
 same-accepted : (t : Table) → Well t → Accepted t (shape t)
-unfolding shape bins before
+unfolding shape
 same-accepted t w =
     record {
       someBuckets = w .someBuckets;
       bucketLimit = w .bucketLimit;
-      someBins =
-          omega (
-            arith,
-            w .topsRise 0 (w .someBlocks),
-            before-mono (t .tops) (length (t .tops)) (w .topsRise) (length (t .tops)) 1 (w .someBlocks) (omega arith),
-          );
+      someBins = some-bins t w;
       binLimit = w .binLimit;
       binsFew = w .binsFew;
       moreBuckets = omega arith;

@@ -1,8 +1,9 @@
--- A lent table is sound exactly where the tests of rules 11 to 16 fail, and the table of `initial` is. Assumes nothing.
+-- A lent table is sound exactly where the tests of rules 11 to 16 and 30 fail, and the table of `initial` is. Assumes nothing.
 use Prim.Native.Nat.{ℕ, zero, suc, _≤_, _<_}
 use mathlib.Core.Path.{_≡_, refl, sym, _∙_, ap, ap₂, subst₂}
-use mathlib.Core.Bool.{Bool, true, false, not}
-use mathlib.Core.List.{List}
+use mathlib.Core.Bool.{true, false}
+use mathlib.Core.Logic.{⊎-elim}
+use mathlib.Core.List.{List, []}
 use native.Mathlib.Nat.{le-refl, zero-add}
 use native.Mathlib.Omega.{arith}
 use lib.Dec.{ltb, eqb}
@@ -27,12 +28,17 @@ use Rattle.model.specs.Refusal.{
   holdingsWrong,
   adjustmentOf,
   adjustmentsWrong,
+  overfills,
+  capacityOutside,
+  capacityWrong,
+  roomShort,
 }
-use Rattle.model.specs.Sound.{Sound}
+use Rattle.model.specs.Sound.{Formed, Sound}
 use Rattle.model.specs.Initial.{initial}
 use Rattle.model.specs.Calls.{
   tableTests,
   sizeTests,
+  freshTests,
   growthTests,
   tableReply,
   arraysAfter,
@@ -40,10 +46,10 @@ use Rattle.model.specs.Calls.{
   initialReply,
   initialArrays,
 }
-use Rattle.model.specs.TableClaims.{SoundIff, SameSound, InitialSound, Holds, WrittenRead, InitialRead}
+use Rattle.model.specs.TableClaims.{SoundIff, CapacityLast, SameSound, InitialSound, Holds, WrittenRead, InitialRead}
 use Rattle.model.specs.declared.table.Header.{Header}
 use Rattle.model.specs.declared.reply.TableReply.{TableReply}
-use Rattle.model.proofs.Counts.{all-at, all-holds}
+use Rattle.model.proofs.Counts.{bit-cases, all-holds}
 use Rattle.model.proofs.Dues.{dues-below, dues-sum, block-closed, rises-at}
 use Rattle.model.proofs.Intervals.{held-own}
 use Rattle.model.proofs.Refusals.{
@@ -57,9 +63,16 @@ use Rattle.model.proofs.Refusals.{
   first-clear,
   first-pass,
   first-none,
+  first-number,
+  first-other,
+  first-skip,
+  first-here,
+  first-both,
   Numbered,
   accepted,
 }
+use Rattle.model.proofs.Rules.{all-not, not-all}
+use Rattle.model.proofs.Capacities.{formed-sound, due-sound, sound-again, sound-capacity}
 use Rattle.model.proofs.Tables.{
   getD-from,
   lentInterval,
@@ -88,17 +101,10 @@ pub record Passes (h : Header) (a : Arrays) : Type 0 where
   pub holdings : holdingsWrong h a ≡ false
   pub adjustments : adjustmentsWrong h a ≡ false
 
--- a negated test over all numbers below n, and the other way
-pub all-not : (p : ℕ → Bool) (n : ℕ) → not (all p n) ≡ false → (i : ℕ) → i < n → p i ≡ true
-all-not p n e = all-at p n (not-false (all p n) e)
-
-pub not-all : (p : ℕ → Bool) (n : ℕ) → ((i : ℕ) → i < n → p i ≡ true) → not (all p n) ≡ false
-not-all p n e = not-clear (all p n) (all-holds p n e)
-
--- then the table is sound
-pub passes-sound : (h : Header) (a : Arrays) → Passes h a → Sound h a
+-- then the table passes rules 11 to 16 as propositions
+pub passes-formed : (h : Header) (a : Arrays) → Passes h a → Formed h a
 unfolding headerOutside arraysShort topsWrong endsWrong blocksWrong holdingsWrong adjustmentsWrong
-passes-sound h a p =
+passes-formed h a p =
     let b = inside maxBuckets (h .buckets) (or-left _ _ (or-left _ _ (p .header))) in
     let g = inside maxBlocks (h .«block_count») (or-right _ _ (or-left _ _ (p .header))) in
     let k = inside maxIntervals (h .«interval_count») (or-right _ _ (p .header)) in
@@ -132,10 +138,10 @@ pub rises-holds : (xs : List ℕ) (n : ℕ) → ((i : ℕ) → i < n → before 
 unfolding rises
 rises-holds xs n r = all-holds (λ i. ltb (before xs i) (getD xs i 0)) n (λ i l. lt-ltb (before xs i) (getD xs i 0) (r i l))
 
--- and a sound table passes
-pub sound-passes : (h : Header) (a : Arrays) → Sound h a → Passes h a
+-- and the other way
+pub formed-passes : (h : Header) (a : Arrays) → Formed h a → Passes h a
 unfolding headerOutside arraysShort topsWrong endsWrong blocksWrong holdingsWrong adjustmentsWrong
-sound-passes h a s =
+formed-passes h a s =
     record {
       header =
           or-both _ _
@@ -165,9 +171,12 @@ sound-passes h a s =
 -- the check answers 0 exactly where the table is sound
 pub sound-iff : SoundIff
 unfolding tableTests
-sound-iff h a = (λ e. passes-sound h a (passed e), λ s. cleared (sound-passes h a s))
+sound-iff h a = (
+  λ e. let (p, c) = passed e in formed-sound h a (passes-formed h a p) c,
+  λ s. cleared (formed-passes h a (s .formed)) (sound-capacity h a s),
+)
   where
-    passed : first (tableTests h a) ≡ 0 → Passes h a
+    passed : first (tableTests h a) ≡ 0 → Passes h a × (capacityWrong h a ≡ false)
     passed e =
         let t = first-clear _ _ (λ z. omega arith) e in
         let u = first-clear _ _ (λ z. omega arith) (t .1) in
@@ -175,22 +184,65 @@ sound-iff h a = (λ e. passes-sound h a (passed e), λ s. cleared (sound-passes 
         let w = first-clear _ _ (λ z. omega arith) (v .1) in
         let x = first-clear _ _ (λ z. omega arith) (w .1) in
         let y = first-clear _ _ (λ z. omega arith) (x .1) in
-        record {
-          header = or-left _ _ (t .0);
-          arrays = or-right _ _ (t .0);
-          tops = u .0;
-          ends = v .0;
-          blocks = w .0;
-          holdings = x .0;
-          adjustments = y .0;
-        }
+        let z = first-clear _ _ (λ z. omega arith) (y .1) in (
+          record {
+            header = or-left _ _ (t .0);
+            arrays = or-right _ _ (t .0);
+            tops = u .0;
+            ends = v .0;
+            blocks = w .0;
+            holdings = x .0;
+            adjustments = y .0;
+          },
+          z .0,
+        )
 
-    cleared : Passes h a → first (tableTests h a) ≡ 0
-    cleared p =
+    cleared : Passes h a → capacityWrong h a ≡ false → first (tableTests h a) ≡ 0
+    cleared p c =
         first-pass _ _ (or-both _ _ (p .header) (p .arrays))
         (first-pass _ _ (p .tops)
         (first-pass _ _ (p .ends)
-        (first-pass _ _ (p .blocks) (first-pass _ _ (p .holdings) (first-pass _ _ (p .adjustments) first-none)))))
+        (first-pass _ _ (p .blocks) (first-pass _ _ (p .holdings) (first-pass _ _ (p .adjustments) (first-pass _ _ c first-none))))))
+
+-- and 30 where 11 to 16 let it pass and its capacity is wrong
+pub capacity-last : CapacityLast
+unfolding tableTests
+capacity-last h a = (refused, answered)
+  where
+    refused : first (tableTests h a) ≡ 30 → Formed h a × (capacityWrong h a ≡ true)
+    refused e =
+        let (sizes, e₁) = first-other 11 30 _ _ (λ z. omega arith) e in
+        let (tops, e₂) = first-other 12 30 _ _ (λ z. omega arith) e₁ in
+        let (ends, e₃) = first-other 13 30 _ _ (λ z. omega arith) e₂ in
+        let (blocks, e₄) = first-other 14 30 _ _ (λ z. omega arith) e₃ in
+        let (holdings, e₅) = first-other 15 30 _ _ (λ z. omega arith) e₄ in
+        let (adjustments, e₆) = first-other 16 30 _ _ (λ z. omega arith) e₅ in (
+          passes-formed h a
+              (record {
+                header = or-left _ _ sizes;
+                arrays = or-right _ _ sizes;
+                tops = tops;
+                ends = ends;
+                blocks = blocks;
+                holdings = holdings;
+                adjustments = adjustments;
+              }),
+          ⊎-elim
+              (λ t. t .0)
+              (λ f. absurd (omega (arith, e₆, first-skip (30, capacityWrong h a) [] (f .0), first-none)))
+              (bit-cases (capacityWrong h a)),
+        )
+
+    answered : Formed h a × (capacityWrong h a ≡ true) → first (tableTests h a) ≡ 30
+    answered (formed, wrong) =
+        let p = formed-passes h a formed in
+        first-skip _ _ (or-both _ _ (p .header) (p .arrays))
+        ∙ first-skip _ _ (p .tops)
+        ∙ first-skip _ _ (p .ends)
+        ∙ first-skip _ _ (p .blocks)
+        ∙ first-skip _ _ (p .holdings)
+        ∙ first-skip _ _ (p .adjustments)
+        ∙ first-here _ _ wrong
 
 -- none of those tests, nor of a growth's, has number 0
 pub table-numbered : (h : Header) (a : Arrays) → Numbered (tableTests h a)
@@ -203,16 +255,16 @@ growth-numbered t s = omega arith
 
 -- A TABLE ALIKE
 
--- soundness depends only on the entries that are part of the table
-pub sound-alike
-    : (h : Header) (a b : Arrays) → Sound h a → Alike h a b
+-- rules 11 to 16 depend only on the entries that are part of the table
+pub formed-alike
+    : (h : Header) (a b : Arrays) → Formed h a → Alike h a b
     → h .«block_count» ≤ length (b .tops)
     → h .«interval_count» ≤ length (b .ends)
     → h .«interval_count» ≤ length (b .blocks)
     → h .«interval_count» ≤ length (b .adjustments)
     → ((i : ℕ) → i < h .«interval_count» → getD (a .adjustments) i 0 ≡ getD (b .adjustments) i 0)
-    → Sound h b
-sound-alike h a b s e tops ends blocks adjustments same =
+    → Formed h b
+formed-alike h a b s e tops ends blocks adjustments same =
     record {
       someBuckets = s .someBuckets;
       bucketLimit = s .bucketLimit;
@@ -277,18 +329,20 @@ same-sound h a b s e long =
     let (rest, adjustments) = or-split _ _ long in
     let (front, blocks) = or-split _ _ rest in
     let (tops, ends) = or-split _ _ front in
-    sound-alike h a b s (same-alike h a b e)
+    sound-again h a b s
+    (formed-alike h a b (s .formed) (same-alike h a b e)
     (ltb-false _ _ tops)
     (ltb-false _ _ ends)
     (ltb-false _ _ blocks)
     (ltb-false _ _ adjustments)
-    (λ i l. ap (λ v. v .adjustment) (same-interval h a b e i l))
+    (λ i l. ap (λ v. v .adjustment) (same-interval h a b e i l)))
+    e
 
--- a sound table stays sound where it is written
-pub sound-written : (h : Header) (a out : Arrays) → Sound h a → Sound h (written (table h a) out)
+-- a table that passes rules 11 to 16 passes them where it is written
+pub formed-written : (h : Header) (a out : Arrays) → Formed h a → Formed h (written (table h a) out)
 unfolding written
-sound-written h a out s =
-    sound-alike h a (written (table h a) out) s (written-alike h a out (s .topsLong))
+formed-written h a out s =
+    formed-alike h a (written (table h a) out) s (written-alike h a out (s .topsLong))
     (tops-long h a (out .tops) (s .topsLong))
     (column-long h a (λ v. v .end) (out .ends))
     (column-long h a (λ v. v .block) (out .blocks))
@@ -328,12 +382,12 @@ only : (P : ℕ → Type 0) → P 0 → (j : ℕ) → j < 1 → P j
 only P p zero l = p
 only P p (suc j) l = absurd (omega arith)
 
-module _ (s : Shape) (out : Arrays) (fit : Allowed s) where
+module _ (s : Shape) (p : ℕ) (out : Arrays) (fit : Allowed s) where
   abbrev h : Header
-  h = header (initial s)
+  h = header (initial s p)
 
   abbrev a : Arrays
-  a = written (initial s) out
+  a = written (initial s p) out
 
   -- its one block holds all buckets
   initial-held : held (table h a) 0 (s .buckets) ≡ s .buckets
@@ -357,10 +411,10 @@ module _ (s : Shape) (out : Arrays) (fit : Allowed s) where
   -- its sizes are those asked for
   initial-shape : shape (table h a) ≡ s
   unfolding initial shape bins before
-  initial-shape = ap shape (table-written (initial s) out)
+  initial-shape = ap shape (table-written (initial s p) out)
 
-  -- so it is sound
-  pub initial-table : Sound (header (initial s)) (written (initial s) out)
+  -- so it passes rules 11 to 16
+  initial-table : Formed (header (initial s p)) (written (initial s p) out)
   unfolding initial header written over before adjustmentOf others count sum
   initial-table =
       record {
@@ -404,13 +458,30 @@ table-left r m t out e =
 
 pub initial-read : InitialRead
 unfolding initialReply initialArrays
-initial-read s out e = table-left (initialRefusal s out) 0 (initial s) out e
+initial-read s p out e = table-left (initialRefusal s p out) 0 (initial s p) out e
 
--- the table of an accepted `initial` is sound
+-- what the tests of a fresh map say
+pub fresh-passes : (s : Shape) (p : ℕ) → first (freshTests s p) ≡ 0 → (first (sizeTests s) ≡ 0) × (overfills p s ≡ false)
+unfolding freshTests sizeTests
+fresh-passes s p e =
+    let (sized, e₂) = first-both (sizeTests s) _ (omega arith) e in (sized, first-number 31 _ _ (omega arith) e₂ .0)
+
+-- its table is sound
+pub fresh-sound
+    : (s : Shape) (p : ℕ) (out : Arrays) → capacityOutside p ≡ false → first (freshTests s p) ≡ 0
+    → Sound (header (initial s p)) (written (initial s p) out)
+unfolding initial header
+fresh-sound s p out inside e =
+    let (sized, roomy) = fresh-passes s p e in
+    let fit = allowed s sized in
+    due-sound _ _ (initial-table s p out fit) inside (ap (overfills p) (initial-shape s p out fit) ∙ roomy)
+
 pub initial-sound : InitialSound
 unfolding initialRefusal initialReply initialArrays
-initial-sound s out e =
+initial-sound s p out e =
+    let (room, e₂) = first-number 21 (roomShort out) _ (omega arith) e in
+    let (inside, e₃) = first-number 30 (capacityOutside p) _ (omega arith) e₂ in
     subst₂ Sound
-    (sym (reply-header (initialRefusal s out) 0 (initial s) e))
-    (sym (arrays-written (initialRefusal s out) (initial s) out e))
-    (initial-table s out (allowed s (first-clear _ _ (λ z. omega arith) e .1)))
+    (sym (reply-header (initialRefusal s p out) 0 (initial s p) e))
+    (sym (arrays-written (initialRefusal s p out) (initial s p) out e))
+    (fresh-sound s p out inside e₃)

@@ -12,7 +12,7 @@ use Rattle.model.specs.Basics.{from, before}
 use Rattle.model.specs.Table.{Shape, Interval, interval, Table, Arrays, table}
 use Rattle.model.specs.Place.{blockOf}
 use Rattle.model.specs.Refusal.{first}
-use Rattle.model.specs.Sound.{Sound}
+use Rattle.model.specs.Sound.{Formed}
 use Rattle.model.specs.Expansion.{
   newTops,
   has,
@@ -40,7 +40,7 @@ use Rattle.model.proofs.Intervals.{before-mono}
 use Rattle.model.proofs.Tables.{lentInterval, length-from}
 use Rattle.model.proofs.Rules.{before-next}
 use Rattle.model.proofs.Listed.{Tells, equal-or, size-most}
-use Rattle.model.proofs.Wells.{held-size, adjustment-most, Well, sound-well}
+use Rattle.model.proofs.Wells.{held-size, adjustment-most, Well, formed-well}
 use Rattle.model.proofs.Growths.{Accepted, accepted, none-falls}
 use Rattle.model.proofs.Filled.{lastOf, pieces-last, pieces-none, pieces-one, filledBlock, filled-grown, filled-least}
 use Rattle.model.proofs.Drained.{drained-least}
@@ -107,18 +107,18 @@ module _ (h : Header) (a : Arrays) where
         (zero-add n)
 
 -- an interval ends at B or before, and the last one at B
-module _ (h : Header) (a : Arrays) (sound : Sound h a) where
+module _ (h : Header) (a : Arrays) (formed : Formed h a) where
   pub end-within : (i : ℕ) → i < h .«interval_count» → getD (a .ends) i 0 ≤ h .buckets
   end-within i l =
       omega (
         arith,
         before-next (a .ends) i,
-        before-mono (a .ends) (h .«interval_count») (sound .endsRise) (h .«interval_count») (i + 1) (omega arith) (omega arith),
-        sound .lastEnd,
+        before-mono (a .ends) (h .«interval_count») (formed .endsRise) (h .«interval_count») (i + 1) (omega arith) (omega arith),
+        formed .lastEnd,
       )
 
   pub end-last : (i : ℕ) → i + 1 ≡ h .«interval_count» → getD (a .ends) i 0 ≡ h .buckets
-  end-last i n = sym (before-next (a .ends) i) ∙ ap (before (a .ends)) n ∙ sound .lastEnd
+  end-last i n = sym (before-next (a .ends) i) ∙ ap (before (a .ends)) n ∙ formed .lastEnd
 
 -- THE WALK
 
@@ -138,13 +138,13 @@ module _ (h : Header) (a : Arrays) (s : Shape) where
 
   module _ (i start w : ℕ) (l : i < h .«interval_count») (p : Plan) (e : p ≡ planFor t s start (lentInterval a i) w) where
     -- one interval further
-    pub walk-next : Sound h a → Walk i start w → Walk (i + 1) (getD (a .ends) i 0) (p .moved)
+    pub walk-next : Formed h a → Walk i start w → Walk (i + 1) (getD (a .ends) i 0) (p .moved)
     unfolding movedAfter planFor
-    walk-next sound k =
+    walk-next formed k =
         let bounds =
         plan-bounds (dueAfter t s (getD (a .blocks) i 0)) start (lentInterval a i) w
-        (omega (arith, k .starts, sound .endsRise i l))
-        (omega (arith, k .starts, adjustment-most h a sound i l))
+        (omega (arith, k .starts, formed .endsRise i l))
+        (omega (arith, k .starts, adjustment-most h a formed i l))
         (k .below)
         in
         record {
@@ -240,11 +240,11 @@ module _ (t : Table) (s : Shape) where
 
 -- THE TWO CASES
 
-module _ (h : Header) (a : Arrays) (s : Shape) (sound : Sound h a) where
+module _ (h : Header) (a : Arrays) (s : Shape) (formed : Formed h a) where
   -- the lengthened intervals are as many as the old ones
   lengthened-count : (m : ℕ) → length (lengthened m (table h a .intervals)) ≡ h .«interval_count»
   lengthened-count m =
-      let some = sound .someIntervals in
+      let some = formed .someIntervals in
       omega (
         arith,
         simp length-append at (ap length (lengthened-lent h a some m)),
@@ -272,8 +272,8 @@ module _ (h : Header) (a : Arrays) (s : Shape) (sound : Sound h a) where
         : someFall (table h a) s ≡ true
         → movedAfter (table h a) s 0 (table h a .intervals) 0 ≡ moved (table h a) (expanded (table h a) s)
     drained-moves e =
-        drained-least (table h a) s (sound-well h a sound) (accepted (table h a) s asked) e
-        ∙ sym (moved-is-least h a s sound asked .0)
+        drained-least (table h a) s (formed-well h a formed) (accepted (table h a) s asked) e
+        ∙ sym (moved-is-least h a s formed asked .0)
 
     -- none is
     pub filled-count
@@ -284,6 +284,6 @@ module _ (h : Header) (a : Arrays) (s : Shape) (sound : Sound h a) where
 
     pub filled-moves : someFall (table h a) s ≡ false → 0 ≡ moved (table h a) (expanded (table h a) s)
     filled-moves e =
-        let w = sound-well h a sound in
+        let w = formed-well h a formed in
         let q = accepted (table h a) s asked in
-        sym (moved-is-least h a s sound asked .0 ∙ filled-least (table h a) s w q (none-falls (table h a) s w q e))
+        sym (moved-is-least h a s formed asked .0 ∙ filled-least (table h a) s w q (none-falls (table h a) s w q e))

@@ -123,6 +123,7 @@ pub table-written : (t : Table) (out : Arrays) → table (header t) (written t o
 unfolding table header written
 table-written t out = λ i. record {
   buckets = t .buckets;
+  capacity = t .capacity;
   tops = take-over (t .tops) (out .tops) i;
   intervals = all-intervals i;
 }
@@ -156,6 +157,7 @@ pub header-table : (h : Header) (a : Arrays) → h .«block_count» ≤ length (
 unfolding header table
 header-table h a l = λ i. record {
   buckets = h .buckets;
+  capacity = h .capacity;
   «block_count» = length-take-le (h .«block_count») (a .tops) l i;
   «interval_count» = length-from (lentInterval a) 0 (h .«interval_count») i;
 }
@@ -256,7 +258,7 @@ module _ (h : Header) (a b : Arrays) (s : Alike h a b) where
       → ((i : ℕ) → i < h .«interval_count» → getD (a .adjustments) i 0 ≡ getD (b .adjustments) i 0) → table h a ≡ table h b
   unfolding table
   table-alike l k e =
-      λ i. record { buckets = h .buckets; tops = same-tops i; intervals = same-intervals i }
+      λ i. record { buckets = h .buckets; capacity = h .capacity; tops = same-tops i; intervals = same-intervals i }
     where
       same-tops : take (h .«block_count») (a .tops) ≡ take (h .«block_count») (b .tops)
       same-tops =

@@ -48,9 +48,9 @@ moved-refused r m t e = ap (λ (p : TableReply). p .moved) (refused r _ _ e)
 
 -- SIZES
 
-shape-initial : (s : Shape) → shape (initial s) ≡ s
+shape-initial : (s : Shape) (p : ℕ) → shape (initial s p) ≡ s
 unfolding shape bins initial before
-shape-initial s = refl
+shape-initial s p = refl
 
 -- the last of a list's entries
 last-entry : (xs : List ℕ) (y : ℕ) → before (xs ++ (y ∷ [])) (length (xs ++ (y ∷ []))) ≡ y
@@ -159,35 +159,35 @@ totals exact (c ∷ cs) st (same, lends) =
           (rw (table-kept st c e) at rest)
       | yes e ↦
           let (tests, growth, limit) = expand-passes (st .header) (c .given) (c .sizes) (c .out) (call-accepted st c e) in
-          let sound = sound-iff (st .header) (c .given) .0 tests in
-          let sizes = grows (st .header) (c .given) (c .sizes) sound growth in
-          let exactly = moved-new st c e ∙ exact (st .header) (c .given) (c .sizes) sound growth .0 in
+          let formed = sound-iff (st .header) (c .given) .0 tests .formed in
+          let sizes = grows (st .header) (c .given) (c .sizes) formed growth in
+          let exactly = moved-new st c e ∙ exact (st .header) (c .given) (c .sizes) formed growth .0 in
           least-accepted (shape (tableOf st)) (c .sizes) (replyOf st c) _ e
           (rw same at exactly)
           (rw same at sizes)
           (rw (table-new st c e, shape-expanded (lent st c) (c .sizes) sizes) at rest)
     ]
 
-module _ (exact : MovedLeast) (s : Shape) (out : Arrays) (e : initialRefusal s out ≡ 0) where
+module _ (exact : MovedLeast) (s : Shape) (p : ℕ) (out : Arrays) (e : initialRefusal s p out ≡ 0) where
   -- an accepted fresh call leaves a table of its sizes
-  started-shape : shape (tableOf (started s out)) ≡ s
+  started-shape : shape (tableOf (started s p out)) ≡ s
   unfolding started
-  started-shape = ap shape (initial-read s out e .1) ∙ shape-initial s
+  started-shape = ap shape (initial-read s p out e .1) ∙ shape-initial s p
 
   -- and all calls after it move the least in total
-  started-least : (cs : List Call) → Lends (started s out) cs → Least s (played (started s out) cs)
-  started-least cs lends = rw started-shape at (totals exact cs (started s out) lends)
+  started-least : (cs : List Call) → Lends (started s p out) cs → Least s (played (started s p out) cs)
+  started-least cs lends = rw started-shape at (totals exact cs (started s p out) lends)
 
 -- no rival moves less, and one that moves as little meets the condition in each of its growths
 pub least-total : MovedLeast → LeastTotal
-least-total exact s out cs e lends r =
-    let (same, sizes) = started-least exact s out e cs lends in
-    rw same (least-of-all s (played (started s out) cs .shapes) r sizes)
+least-total exact s p out cs e lends r =
+    let (same, sizes) = started-least exact s p out e cs lends in
+    rw same (least-of-all s (played (started s p out) cs .shapes) r sizes)
 
 pub least-total-decided : MovedLeast → LeastTotalDecided
-least-total-decided exact s out cs e lends r =
-    let (same, sizes) = started-least exact s out e cs lends in
-    rw same (least-decided s (played (started s out) cs .shapes) r sizes)
+least-total-decided exact s p out cs e lends r =
+    let (same, sizes) = started-least exact s p out e cs lends in
+    rw same (least-decided s (played (started s p out) cs .shapes) r sizes)
 
 -- WHAT IS LENT
 
@@ -214,4 +214,4 @@ sound-left grown (c ∷ cs) st sound =
 
 pub sound-after : ExpandSound → LeftSound
 unfolding started
-sound-after grown s out cs e = sound-left grown cs (started s out) (initial-sound s out e)
+sound-after grown s p out cs e = sound-left grown cs (started s p out) (initial-sound s p out e)

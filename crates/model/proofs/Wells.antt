@@ -1,5 +1,5 @@
--- Laws of tables and the arrays that hold them: a table written into arrays is read back, sound arrays hold a well formed
--- table, and arrays into which one is written are sound. Assumes nothing.
+-- Laws of tables and the arrays that hold them: a table written into arrays is read back, formed arrays hold a well formed
+-- table, and arrays into which one is written are formed. Assumes nothing.
 use Prim.Native.Nat.{ℕ, zero, suc, _+_, _≤_, _<_}
 use mathlib.Core.Path.{_≡_, refl, sym, _∙_, ap}
 use mathlib.Core.List.{List, [], _∷_, map}
@@ -27,10 +27,10 @@ use Rattle.model.specs.Table.{
 use Rattle.model.specs.Place.{blockOf, held, size}
 use Rattle.model.specs.Due.{dueOfBlock}
 use Rattle.model.specs.Refusal.{adjustmentOf}
-use Rattle.model.specs.Sound.{Sound}
-use Rattle.model.specs.Lent.{TopsSound}
+use Rattle.model.specs.Sound.{Formed}
+use Rattle.model.specs.Lent.{TopsFormed}
 use Rattle.model.specs.declared.table.Header.{Header}
-use Rattle.model.proofs.Intervals.{Rising, block-at, held-others}
+use Rattle.model.proofs.Intervals.{Rising, before-mono, block-at, held-others}
 use Rattle.model.proofs.Listed.{Told, Tells, tells-same}
 use Rattle.model.proofs.Tables.{length-from, before-same, getD-over, over-long, table-written}
 
@@ -88,14 +88,24 @@ pub record Well (t : Table) : Type 0 where
   pub tells : Tells (blockOf t) (length (t .tops)) 0 (t .intervals) (t .buckets)
   pub holdings : (j : ℕ) → j < length (t .tops) → size (blockOf t) (t .buckets) j ≡ dueOfBlock (shape t) (t .tops) j
 
+-- there is a bin
+pub some-bins : (t : Table) → Well t → 1 ≤ bins t
+unfolding bins before
+some-bins t w =
+    omega (
+      arith,
+      w .topsRise 0 (w .someBlocks),
+      before-mono (t .tops) (length (t .tops)) (w .topsRise) (length (t .tops)) 1 (w .someBlocks) (omega arith),
+    )
+
 -- what a block holds is its size
 pub held-size : (t : Table) (j m : ℕ) → held t j m ≡ size (blockOf t) m j
 unfolding held size
 held-size t j m = refl
 
-module _ (h : Header) (a : Arrays) (s : Sound h a) where
-  abbrev pub lent-tops : TopsSound h (a .tops)
-  lent-tops = record { ends = a .ends; blocks = a .blocks; adjustments = a .adjustments; sound = s }
+module _ (h : Header) (a : Arrays) (s : Formed h a) where
+  abbrev pub lent-tops : TopsFormed h (a .tops)
+  lent-tops = record { ends = a .ends; blocks = a .blocks; adjustments = a .adjustments; formed = s }
 
   -- the tops of the table are the first G
   pub tops-length : length (table h a .tops) ≡ h .«block_count»
@@ -158,10 +168,10 @@ module _ (h : Header) (a : Arrays) (s : Sound h a) where
   unfolding bins
   bins-last = ap (before (table h a .tops)) tops-length ∙ tops-before (h .«block_count») (omega arith)
 
-  -- the table in sound arrays
-  pub sound-well : Well (table h a)
+  -- the table in formed arrays
+  pub formed-well : Well (table h a)
   unfolding table
-  sound-well =
+  formed-well =
       record {
         someBuckets = s .someBuckets;
         bucketLimit = s .bucketLimit;
@@ -216,9 +226,9 @@ module _ (u : Table) (w : Well u) (out : Arrays) where
       (told-at (blockOf u) (length (u .tops)) 0 (u .intervals) (u .buckets) (w .tells) i l)
 
   -- the arrays that the table is written to
-  pub well-sound : Sound (header u) (written u out)
+  pub well-formed : Formed (header u) (written u out)
   unfolding header written adjustmentOf bins
-  well-sound =
+  well-formed =
       record {
         someBuckets = w .someBuckets;
         bucketLimit = w .bucketLimit;

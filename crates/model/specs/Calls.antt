@@ -15,6 +15,7 @@ use Rattle.model.specs.Refusal.{
   shrinks,
   unchanged,
   blocksFull,
+  overfills,
   intervalsFull,
   somePast,
   binPast,
@@ -29,6 +30,8 @@ use Rattle.model.specs.Refusal.{
   blocksWrong,
   holdingsWrong,
   adjustmentsWrong,
+  capacityOutside,
+  capacityWrong,
   roomShort,
   resultShort,
 }
@@ -54,7 +57,7 @@ unfoldable pub answer : {A : Type 0} → ℕ → A → A → A
 answer r a b = if eqb r 0 then a else b
 
 abbrev pub noHeader : Header
-noHeader = record { buckets = 0; «block_count» = 0; «interval_count» = 0 }
+noHeader = record { buckets = 0; capacity = 0; «block_count» = 0; «interval_count» = 0 }
 
 -- THE TESTS THAT CALLS SHARE
 
@@ -67,14 +70,20 @@ tableTests h a =
     ∷ (14, blocksWrong h (a .blocks))
     ∷ (15, holdingsWrong h a)
     ∷ (16, adjustmentsWrong h a)
+    ∷ (30, capacityWrong h a)
     ∷ []
 
--- sizes asked for: of any map, and of a growth
+-- sizes asked for: of any map, of a fresh one of capacity p, and of a growth
 unfoldable pub sizeTests : Shape → List Test
 sizeTests s = (1, sizeOutside s) ∷ (2, fewBuckets s) ∷ []
 
+unfoldable pub freshTests : Shape → ℕ → List Test
+freshTests s p = sizeTests s ++ ((31, overfills p s) ∷ [])
+
 unfoldable pub growthTests : Table → Shape → List Test
-growthTests t s = sizeTests s ++ ((3, shrinks t s) ∷ (4, unchanged t s) ∷ (5, blocksFull t s) ∷ [])
+growthTests t s =
+    sizeTests s
+    ++ ((3, shrinks t s) ∷ (4, unchanged t s) ∷ (5, blocksFull t s) ∷ (31, overfills (t .capacity) s) ∷ [])
 
 -- A CALL THAT WRITES A TABLE: refusal r, m buckets moved, the table t, the arrays `out` to write it to
 
@@ -87,16 +96,16 @@ tableReply r m t =
 unfoldable pub arraysAfter : ℕ → Table → Arrays → Arrays
 arraysAfter r t out = answer r (written t out) out
 
--- initial (fresh)
+-- initial (fresh): sizes s, and the capacity p
 
-unfoldable pub initialRefusal : Shape → Arrays → ℕ
-initialRefusal s out = first ((21, roomShort out) ∷ sizeTests s)
+unfoldable pub initialRefusal : Shape → ℕ → Arrays → ℕ
+initialRefusal s p out = first ((21, roomShort out) ∷ (30, capacityOutside p) ∷ freshTests s p)
 
-unfoldable pub initialReply : Shape → Arrays → TableReply
-initialReply s out = tableReply (initialRefusal s out) 0 (initial s)
+unfoldable pub initialReply : Shape → ℕ → Arrays → TableReply
+initialReply s p out = tableReply (initialRefusal s p out) 0 (initial s p)
 
-unfoldable pub initialArrays : Shape → Arrays → Arrays
-initialArrays s out = arraysAfter (initialRefusal s out) (initial s) out
+unfoldable pub initialArrays : Shape → ℕ → Arrays → Arrays
+initialArrays s p out = arraysAfter (initialRefusal s p out) (initial s p) out
 
 -- expand (growth)
 
@@ -219,26 +228,27 @@ saveReply h a buffer =
 unfoldable pub saveBytes : Header → Arrays → List ℕ → List ℕ
 saveBytes h a buffer = answer (saveRefusal h a buffer) (over (saved (table h a)) buffer) buffer
 
--- load, from a file of bytes
+-- load, from a file of bytes, with the capacity p
 
-unfoldable pub loadTests : List ℕ → List Test
-loadTests f =
-    (11, fileWrong f)
-    ∷ (12, topsWrong (loadedHeader f) (loadedArrays f .tops))
-    ∷ (13, endsWrong (loadedHeader f) (loadedArrays f .ends))
-    ∷ (14, blocksWrong (loadedHeader f) (loadedArrays f .blocks))
-    ∷ (15, holdingsWrong (loadedHeader f) (loadedArrays f))
+unfoldable pub loadTests : List ℕ → ℕ → List Test
+loadTests f p =
+    (11, fileWrong f p)
+    ∷ (12, topsWrong (loadedHeader f p) (loadedArrays f p .tops))
+    ∷ (13, endsWrong (loadedHeader f p) (loadedArrays f p .ends))
+    ∷ (14, blocksWrong (loadedHeader f p) (loadedArrays f p .blocks))
+    ∷ (15, holdingsWrong (loadedHeader f p) (loadedArrays f p))
+    ∷ (30, capacityWrong (loadedHeader f p) (loadedArrays f p))
     ∷ []
 
-unfoldable pub loadRefusal : List ℕ → Arrays → ℕ
-loadRefusal f out = first ((21, roomShort out) ∷ loadTests f)
+unfoldable pub loadRefusal : List ℕ → ℕ → Arrays → ℕ
+loadRefusal f p out = first ((21, roomShort out) ∷ loadTests f p)
 
 -- the reply where the refusal is r and the file says the header h
 abbrev pub loadAnswer : ℕ → Header → LoadReply
 loadAnswer r h = answer r (record { refusal = 0; header = h }) (record { refusal = r; header = noHeader })
 
-unfoldable pub loadReply : List ℕ → Arrays → LoadReply
-loadReply f out = loadAnswer (loadRefusal f out) (loadedHeader f)
+unfoldable pub loadReply : List ℕ → ℕ → Arrays → LoadReply
+loadReply f p out = loadAnswer (loadRefusal f p out) (loadedHeader f p)
 
-unfoldable pub loadArrays : List ℕ → Arrays → Arrays
-loadArrays f out = arraysAfter (loadRefusal f out) (table (loadedHeader f) (loadedArrays f)) out
+unfoldable pub loadArrays : List ℕ → ℕ → Arrays → Arrays
+loadArrays f p out = arraysAfter (loadRefusal f p out) (table (loadedHeader f p) (loadedArrays f p)) out

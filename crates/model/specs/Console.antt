@@ -7,13 +7,14 @@ use mathlib.Core.List.{List, [], _∷_, _++_, map}
 use lib.ListN.{length}
 use lib.Dec.{leb, ltb, eqb}
 use Rattle.model.specs.Basics.{if_then_else_, _and_, joined}
+use Rattle.model.specs.Limits.{maxCapacity}
 use Rattle.model.specs.Table.{Table, sizes}
 use Rattle.model.specs.Search.{placeAt, foundAt}
 use Rattle.model.specs.Refusal.{Test, first, intervalsFull}
 use Rattle.model.specs.Initial.{initial}
 use Rattle.model.specs.Expansion.{expanded, moved}
 use Rattle.model.specs.Relocations.{rows}
-use Rattle.model.specs.Calls.{answer, sizeTests, growthTests, placeTests, findTests}
+use Rattle.model.specs.Calls.{answer, freshTests, growthTests, placeTests, findTests}
 use Rattle.model.specs.declared.answer.Answer.{Answer}
 use Rattle.model.specs.declared.answer.Answer.the-variants as says
 use Rattle.model.specs.declared.command.Command.{Command}
@@ -95,7 +96,7 @@ decimal n = digits 10 n
 unfoldable pub line : String → List ℕ → List ℕ
 line w ns = text w ++ joined (map (λ n. 32 ∷ decimal n) ns) ++ (10 ∷ [])
 
--- A SESSION
+-- A SESSION: its maps have the capacity 1,000,000,000
 
 -- no map; a fresh map; the map before the latest growth and the map after it
 pub data Session : Type 0 where
@@ -109,7 +110,7 @@ noMap (fresh t) = false
 noMap (grown t u) = false
 
 unfoldable pub current : Session → Table
-current empty = record { buckets = 0; tops = []; intervals = [] }
+current empty = record { buckets = 0; capacity = 0; tops = []; intervals = [] }
 current (fresh t) = t
 current (grown t u) = u
 
@@ -131,7 +132,7 @@ isUnreadable Unreadable = true
 
 -- the tests of a command on the table t
 unfoldable pub commandTests : Table → Command → List Test
-commandTests t (Fresh b n) = sizeTests (sizes b n)
+commandTests t (Fresh b n) = freshTests (sizes b n) maxCapacity
 commandTests t (Grow b n) = growthTests t (sizes b n) ++ ((8, intervalsFull t (sizes b n)) ∷ [])
 commandTests t (Where x) = placeTests t x
 commandTests t (At y p) = findTests t y p
@@ -153,7 +154,7 @@ moveText rs = joined (map (line "move") rs)
 
 -- what an accepted command leaves, and what it answers; an unreadable line is not accepted
 unfoldable pub accepted : Session → Command → Session
-accepted s (Fresh b n) = fresh (initial (sizes b n))
+accepted s (Fresh b n) = fresh (initial (sizes b n) maxCapacity)
 accepted s (Grow b n) = grown (current s) (expanded (current s) (sizes b n))
 accepted s (Where x) = s
 accepted s (At y p) = s
@@ -161,7 +162,7 @@ accepted s Moves = s
 accepted s Unreadable = s
 
 unfoldable pub acceptedAnswer : Session → Command → Answer
-acceptedAnswer s (Fresh b n) = says.Table 0 (length (initial (sizes b n) .intervals))
+acceptedAnswer s (Fresh b n) = says.Table 0 (length (initial (sizes b n) maxCapacity .intervals))
 acceptedAnswer s (Grow b n) =
     says.Table
     (moved (current s) (expanded (current s) (sizes b n)))

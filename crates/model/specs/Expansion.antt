@@ -111,12 +111,13 @@ drained t s =
     extended (length (t .tops)) (t .buckets) (s .buckets - t .buckets) (movedAfter t s 0 (t .intervals) 0)
     (parted t s 0 (t .intervals) 0)
 
--- THE NEW TABLE
+-- THE NEW TABLE: its capacity is the old one
 
 unfoldable pub expanded : Table → Shape → Table
 expanded t s =
     record {
       buckets = s .buckets;
+      capacity = t .capacity;
       tops = newTops t s;
       intervals = if someFall t s then drained t s else filled t s;
     }

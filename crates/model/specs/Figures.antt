@@ -3,7 +3,7 @@
 use Prim.Native.Nat.{ℕ}
 use mathlib.Core.List.{List, [], _∷_, map}
 use lib.ListN.{take, replicate}
-use Rattle.model.specs.Limits.{maxBlocks, maxIntervals}
+use Rattle.model.specs.Limits.{maxCapacity, maxBlocks, maxIntervals}
 use Rattle.model.specs.Table.{Shape, sizes, Arrays, arrays}
 use Rattle.model.specs.Calls.{placeReply}
 use Rattle.model.specs.History.{State, started, played, handedOn}
@@ -34,14 +34,14 @@ answered st (adjustments xs) = adjustments (take (st .header .«interval_count»
 answered st (place x y p) =
     place x (placeReply (st .header) (st .arrays) x .bin) (placeReply (st .header) (st .arrays) x .position)
 
--- a figure: fresh sizes, the growths after it, and document 01's answers
+-- a figure: fresh sizes, the growths after it, and document 01's answers; the capacity is 1,000,000,000
 pub record Figure : Type 0 where
   pub fresh : Shape
   pub growths : List Shape
   pub stated : List Answer
 
 unfoldable pub computed : Figure → List Answer
-computed f = map (answered (grown (started (f .fresh) blank) (f .growths))) (f .stated)
+computed f = map (answered (grown (started (f .fresh) maxCapacity blank) (f .growths))) (f .stated)
 
 abbrev pub figure : Shape → List Shape → List Answer → Figure
 figure s ss a = record { fresh = s; growths = ss; stated = a }

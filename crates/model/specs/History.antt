@@ -25,8 +25,9 @@ abbrev pub tableOf : State → Table
 tableOf st = table (st .header) (st .arrays)
 
 -- what a fresh call leaves
-unfoldable pub started : Shape → Arrays → State
-started s out = record { reply = initialReply s out; header = initialReply s out .header; arrays = initialArrays s out }
+unfoldable pub started : Shape → ℕ → Arrays → State
+started s p out =
+    record { reply = initialReply s p out; header = initialReply s p out .header; arrays = initialArrays s p out }
 
 -- a growth call's reply, and what it leaves: what it wrote, or, where it is refused, what was there, the table that it read
 unfoldable pub replyOf : State → Call → TableReply
@@ -62,8 +63,8 @@ played st [] = record { left = st; moved = 0; shapes = [] }
 played st (c ∷ rest) = added (replyOf st c) (c .sizes) (played (next st c) rest)
 
 -- a fresh call and growth calls after it
-abbrev pub history : Shape → Arrays → List Call → Played
-history s out cs = played (started s out) cs
+abbrev pub history : Shape → ℕ → Arrays → List Call → Played
+history s p out cs = played (started s p out) cs
 
 -- each call is lent arrays that hold the table which the calls before it left, of any length and with any entries past it. No
 -- length is asked for: an array shorter than its count reads as 0 past its end, so it may hold the table, and rule 11 refuses the

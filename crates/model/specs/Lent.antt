@@ -4,7 +4,7 @@ use mathlib.Core.List.{List}
 use denote.Ref.{RefT}
 use denote.Triple.Both.{Both}
 use Rattle.model.specs.Table.{Table, Arrays, arrays, table}
-use Rattle.model.specs.Sound.{Sound}
+use Rattle.model.specs.Sound.{Formed}
 use Rattle.model.specs.declared.table.Header.{Header}
 
 -- a lent array as a `requires` reads it, and as an `ensures` does: at the entry of the call and at its exit
@@ -36,13 +36,13 @@ tableNow h tops ends blocks adjustments = table h (arraysNow tops ends blocks ad
 abbrev pub tableGiven : Header → Lents → Lents → Lents → Lents → Table
 tableGiven h tops ends blocks adjustments = table h (given tops ends blocks adjustments)
 
--- it passes rules 11 to 16
-abbrev pub LentSound : Header → Lent → Lent → Lent → Lent → Type 0
-LentSound h tops ends blocks adjustments = Sound h (arraysNow tops ends blocks adjustments)
+-- it is formed: it passes rules 11 to 16
+abbrev pub LentFormed : Header → Lent → Lent → Lent → Lent → Type 0
+LentFormed h tops ends blocks adjustments = Formed h (arraysNow tops ends blocks adjustments)
 
--- tops of a table that does, for a function that reads no other array of it
-pub record TopsSound (h : Header) (tops : List ℕ) : Type 0 where
+-- tops of a formed table, for a function that reads no other array of it
+pub record TopsFormed (h : Header) (tops : List ℕ) : Type 0 where
   pub ends : List ℕ
   pub blocks : List ℕ
   pub adjustments : List ℕ
-  pub sound : Sound h (arrays tops ends blocks adjustments)
+  pub formed : Formed h (arrays tops ends blocks adjustments)

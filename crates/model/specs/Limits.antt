@@ -5,6 +5,10 @@ use Prim.Native.Nat.{ℕ}
 abbrev pub maxBuckets : ℕ
 maxBuckets = 1_000_000_000
 
+-- P, the capacity, which is the number of positions in every bin (drawer), is 1 to this
+abbrev pub maxCapacity : ℕ
+maxCapacity = 1_000_000_000
+
 -- n, the number of bins (drawers), is 1 to this
 abbrev pub maxBins : ℕ
 maxBins = 65_535

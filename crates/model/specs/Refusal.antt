@@ -6,10 +6,10 @@ use mathlib.Core.List.{List, [], _∷_}
 use lib.ListN.{length, getD}
 use lib.Dec.{leb, ltb, eqb}
 use Rattle.model.specs.Basics.{if_then_else_, _and_, _or_, all, before}
-use Rattle.model.specs.Limits.{maxBuckets, maxBins, maxBlocks, maxIntervals, maxExpansions}
+use Rattle.model.specs.Limits.{maxBuckets, maxCapacity, maxBins, maxBlocks, maxIntervals, maxExpansions}
 use Rattle.model.specs.Table.{Shape, Table, bins, shape, Arrays, table}
 use Rattle.model.specs.Place.{held, others, binSize}
-use Rattle.model.specs.Due.{dueOfBlock}
+use Rattle.model.specs.Due.{due, dueOfBlock}
 use Rattle.model.specs.Expansion.{expanded}
 use Rattle.model.specs.declared.table.Header.{Header}
 
@@ -51,6 +51,18 @@ unchanged t s = eqb (s .buckets) (t .buckets) and eqb (s .bins) (bins t)
 -- 5: n′ > n with all blocks present
 unfoldable pub blocksFull : Table → Shape → Bool
 blocksFull t s = ltb (bins t) (s .bins) and eqb (length (t .tops)) maxBlocks
+
+-- a bin that holds m buckets, where the capacity is p, is overfull
+unfoldable pub overfull : ℕ → ℕ → Bool
+overfull p m = ltb p m
+
+-- some of the bins below n is; `holds` says how many buckets each holds
+unfoldable pub someOverfull : ℕ → (ℕ → ℕ) → ℕ → Bool
+someOverfull p holds n = not (all (λ y. not (overfull p (holds y))) n)
+
+-- 31: some bin of the map asked for would be due more than P
+unfoldable pub overfills : ℕ → Shape → Bool
+overfills p s = someOverfull p (due s) (s .bins)
 
 -- 8: the new table needs more than 2,081 intervals
 unfoldable pub intervalsFull : Table → Shape → Bool
@@ -130,6 +142,15 @@ adjustmentOf h a i = others (table h a) (getD (a .blocks) i 0) (before (a .ends)
 -- 16: a wrong adjustment
 unfoldable pub adjustmentsWrong : Header → Arrays → Bool
 adjustmentsWrong h a = not (all (λ i. eqb (getD (a .adjustments) i 0) (adjustmentOf h a i)) (h .«interval_count»))
+
+-- 30: P is 0 or above its limit
+unfoldable pub capacityOutside : ℕ → Bool
+capacityOutside p = outside maxCapacity p
+
+-- or, in a lent or loaded map, below the size of its largest bin: some bin holds more than P
+unfoldable pub capacityWrong : Header → Arrays → Bool
+capacityWrong h a =
+    capacityOutside (h .capacity) or someOverfull (h .capacity) (binSize (table h a)) (bins (table h a))
 
 -- LENT ROOM
 

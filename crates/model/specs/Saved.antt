@@ -37,29 +37,31 @@ unfoldable pub number : List ℕ → ℕ → ℕ
 number f i =
     getD f (4 * i) 0 + 256 * getD f (4 * i + 1) 0 + 65_536 * getD f (4 * i + 2) 0 + 16_777_216 * getD f (4 * i + 3) 0
 
-unfoldable pub loadedHeader : List ℕ → Header
-loadedHeader f = record { buckets = number f 0; «block_count» = number f 1; «interval_count» = number f 2 }
+-- the header of a file: its first three numbers, and the capacity p, which the file does not have
+unfoldable pub loadedHeader : List ℕ → ℕ → Header
+loadedHeader f p =
+    record { buckets = number f 0; capacity = p; «block_count» = number f 1; «interval_count» = number f 2 }
 
 -- 11: B, G or k outside its limits, or a file of another length
-unfoldable pub fileWrong : List ℕ → Bool
-fileWrong f =
-    headerOutside (loadedHeader f)
-    or not (eqb (length f) (savedLength (loadedHeader f .«block_count») (loadedHeader f .«interval_count»)))
+unfoldable pub fileWrong : List ℕ → ℕ → Bool
+fileWrong f p =
+    headerOutside (loadedHeader f p)
+    or not (eqb (length f) (savedLength (loadedHeader f p .«block_count») (loadedHeader f p .«interval_count»)))
 
 -- the arrays in the file, with no adjustments
-unfoldable pub readArrays : List ℕ → Arrays
-readArrays f =
+unfoldable pub readArrays : List ℕ → ℕ → Arrays
+readArrays f p =
     arrays
-    (from (number f) 3 (loadedHeader f .«block_count»))
-    (from (number f) (3 + loadedHeader f .«block_count») (loadedHeader f .«interval_count»))
-    (from (number f) (3 + loadedHeader f .«block_count» + loadedHeader f .«interval_count») (loadedHeader f .«interval_count»))
+    (from (number f) 3 (loadedHeader f p .«block_count»))
+    (from (number f) (3 + loadedHeader f p .«block_count») (loadedHeader f p .«interval_count»))
+    (from (number f) (3 + loadedHeader f p .«block_count» + loadedHeader f p .«interval_count») (loadedHeader f p .«interval_count»))
     []
 
 -- loading works out the adjustments
-unfoldable pub loadedArrays : List ℕ → Arrays
-loadedArrays f =
+unfoldable pub loadedArrays : List ℕ → ℕ → Arrays
+loadedArrays f p =
     arrays
-    (readArrays f .tops)
-    (readArrays f .ends)
-    (readArrays f .blocks)
-    (from (adjustmentOf (loadedHeader f) (readArrays f)) 0 (loadedHeader f .«interval_count»))
+    (readArrays f p .tops)
+    (readArrays f p .ends)
+    (readArrays f p .blocks)
+    (from (adjustmentOf (loadedHeader f p) (readArrays f p)) 0 (loadedHeader f p .«interval_count»))

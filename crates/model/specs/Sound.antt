@@ -1,16 +1,18 @@
--- A lent table that rules 11 to 16 of document 01 let pass, as propositions. Assumes nothing.
+-- A lent table that rules 11 to 16 of document 01 let pass, and one that 30 lets pass too, as propositions. Assumes nothing.
 use Prim.Native.Nat.{ℕ, _≤_, _<_}
 use mathlib.Core.Path.{_≡_}
+use mathlib.Core.Bool.{false}
 use lib.ListN.{length, getD}
 use Rattle.model.specs.Basics.{before}
-use Rattle.model.specs.Limits.{maxBuckets, maxBins, maxBlocks, maxIntervals}
-use Rattle.model.specs.Table.{Arrays, shape, table}
-use Rattle.model.specs.Place.{held}
+use Rattle.model.specs.Limits.{maxBuckets, maxCapacity, maxBins, maxBlocks, maxIntervals}
+use Rattle.model.specs.Table.{bins, shape, Arrays, table}
+use Rattle.model.specs.Place.{held, binSize}
 use Rattle.model.specs.Due.{dueOfBlock}
-use Rattle.model.specs.Refusal.{adjustmentOf}
+use Rattle.model.specs.Refusal.{overfull, adjustmentOf}
 use Rattle.model.specs.declared.table.Header.{Header}
 
-pub record Sound (h : Header) (a : Arrays) : Type 0 where
+-- a formed table: rules 11 to 16, the map itself
+pub record Formed (h : Header) (a : Arrays) : Type 0 where
   -- 11
   pub someBuckets : 1 ≤ h .buckets
   pub bucketLimit : h .buckets ≤ maxBuckets
@@ -37,3 +39,10 @@ pub record Sound (h : Header) (a : Arrays) : Type 0 where
       → held (table h a) j (h .buckets) ≡ dueOfBlock (shape (table h a)) (a .tops) j
   -- 16
   pub adjusted : (i : ℕ) → i < h .«interval_count» → getD (a .adjustments) i 0 ≡ adjustmentOf h a i
+
+-- a sound table: these, and 30, its capacity
+pub record Sound (h : Header) (a : Arrays) : Type 0 where
+  pub formed : Formed h a
+  pub someCapacity : 1 ≤ h .capacity
+  pub capacityLimit : h .capacity ≤ maxCapacity
+  pub noneOverfull : (y : ℕ) → y < bins (table h a) → overfull (h .capacity) (binSize (table h a) y) ≡ false

@@ -23,9 +23,10 @@ pub record Interval : Type 0 where
 abbrev pub interval : ℕ → ℕ → ℕ → Interval
 interval end block adjustment = record { end = end; block = block; adjustment = adjustment }
 
--- a table: B; the tops, one a block, each the number of bins up to and including the block; the intervals
+-- a table: B; the capacity P; the tops, one a block, each the number of bins up to and including the block; the intervals
 pub record Table : Type 0 where
   pub buckets : ℕ
+  pub capacity : ℕ
   pub tops : List ℕ
   pub intervals : List Interval
 
@@ -58,13 +59,20 @@ unfoldable pub table : Header → Arrays → Table
 table h a =
     record {
       buckets = h .buckets;
+      capacity = h .capacity;
       tops = take (h .«block_count») (a .tops);
       intervals = from (λ i. interval (getD (a .ends) i 0) (getD (a .blocks) i 0) (getD (a .adjustments) i 0)) 0 (h .«interval_count»);
     }
 
 -- a table as its header and its arrays
 unfoldable pub header : Table → Header
-header t = record { buckets = t .buckets; «block_count» = length (t .tops); «interval_count» = length (t .intervals) }
+header t =
+    record {
+      buckets = t .buckets;
+      capacity = t .capacity;
+      «block_count» = length (t .tops);
+      «interval_count» = length (t .intervals);
+    }
 
 -- new entries over the first ones of a lent array; those past them are kept
 unfoldable pub over : List ℕ → List ℕ → List ℕ

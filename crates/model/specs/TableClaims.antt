@@ -8,9 +8,9 @@ use lib.ListN.{length, getD, take}
 use Rattle.model.specs.Table.{Shape, Table, bins, shape, Arrays, table, header, written}
 use Rattle.model.specs.Place.{bin, position, binSize}
 use Rattle.model.specs.Due.{due}
-use Rattle.model.specs.Refusal.{first, bucketPast, placePast, falls, arraysShort, roomShort, resultShort}
+use Rattle.model.specs.Refusal.{first, overfills, bucketPast, placePast, falls, arraysShort, capacityWrong, roomShort, resultShort}
 use Rattle.model.specs.Search.{bucketAt}
-use Rattle.model.specs.Sound.{Sound}
+use Rattle.model.specs.Sound.{Formed, Sound}
 use Rattle.model.specs.Initial.{initial}
 use Rattle.model.specs.Saved.{saved, loadedHeader, loadedArrays}
 use Rattle.model.specs.Calls.{
@@ -36,16 +36,26 @@ use Rattle.model.specs.declared.table.Header.{Header}
 abbrev pub SoundIff : Type 0
 SoundIff = (h : Header) (a : Arrays) → (first (tableTests h a) ≡ 0) ↔ Sound h a
 
+-- it answers 30 exactly where rules 11 to 16 let the table pass and its capacity is wrong
+abbrev pub CapacityLast : Type 0
+CapacityLast = (h : Header) (a : Arrays) → (first (tableTests h a) ≡ 30) ↔ (Formed h a × (capacityWrong h a ≡ true))
+
+-- sizes overfill a bin exactly where some bin would be due more than P
+abbrev pub OverfillsWhere : Type 0
+OverfillsWhere = (p : ℕ) (s : Shape) → (overfills p s ≡ true) ↔ ((y : ℕ) × (y < s .bins) × (p < due s y))
+
 -- soundness is the table's: arrays that hold the table of sound ones, and are no shorter than its counts, are sound
 abbrev pub SameSound : Type 0
 SameSound = (h : Header) (a b : Arrays) → Sound h a → table h b ≡ table h a → arraysShort h b ≡ false → Sound h b
 
 -- the tables of accepted calls are sound
 abbrev pub InitialSound : Type 0
-InitialSound = (s : Shape) (out : Arrays) → initialRefusal s out ≡ 0 → Sound (initialReply s out .header) (initialArrays s out)
+InitialSound =
+    (s : Shape) (p : ℕ) (out : Arrays) → initialRefusal s p out ≡ 0 → Sound (initialReply s p out .header) (initialArrays s p out)
 
 abbrev pub LoadSound : Type 0
-LoadSound = (f : List ℕ) (out : Arrays) → loadRefusal f out ≡ 0 → Sound (loadReply f out .header) (loadArrays f out)
+LoadSound =
+    (f : List ℕ) (p : ℕ) (out : Arrays) → loadRefusal f p out ≡ 0 → Sound (loadReply f p out .header) (loadArrays f p out)
 
 -- a table written into arrays and read back is that table
 abbrev pub WrittenRead : Type 0
@@ -57,27 +67,33 @@ Holds h a t = (h ≡ header t) × (table h a ≡ t)
 
 abbrev pub InitialRead : Type 0
 InitialRead =
-    (s : Shape) (out : Arrays) → initialRefusal s out ≡ 0
-    → Holds (initialReply s out .header) (initialArrays s out) (initial s)
+    (s : Shape) (p : ℕ) (out : Arrays) → initialRefusal s p out ≡ 0
+    → Holds (initialReply s p out .header) (initialArrays s p out) (initial s p)
 
 abbrev pub LoadRead : Type 0
 LoadRead =
-    (f : List ℕ) (out : Arrays) → loadRefusal f out ≡ 0
-    → Holds (loadReply f out .header) (loadArrays f out) (table (loadedHeader f) (loadedArrays f))
+    (f : List ℕ) (p : ℕ) (out : Arrays) → loadRefusal f p out ≡ 0
+    → Holds (loadReply f p out .header) (loadArrays f p out) (table (loadedHeader f p) (loadedArrays f p))
 
--- every bin of a sound table holds its due size, so the mapping is balanced
+-- every bin of a formed table holds its due size, so the mapping is balanced
 abbrev pub SizeDue : Type 0
 SizeDue =
-    (h : Header) (a : Arrays) → Sound h a
+    (h : Header) (a : Arrays) → Formed h a
     → (y : ℕ) → y < bins (table h a) → binSize (table h a) y ≡ due (shape (table h a)) y
 
 abbrev pub TableBalanced : Type 0
-TableBalanced = (h : Header) (a : Arrays) → Sound h a → Balanced (shape (table h a)) (bin (table h a))
+TableBalanced = (h : Header) (a : Arrays) → Formed h a → Balanced (shape (table h a)) (bin (table h a))
+
+-- no bin of a sound table holds more than P
+abbrev pub NoneOverfull : Type 0
+NoneOverfull =
+    (h : Header) (a : Arrays) → Sound h a
+    → (y : ℕ) → y < bins (table h a) → binSize (table h a) y ≤ h .capacity
 
 -- find undoes place, and the positions of a bin are below its size
 abbrev pub FindPlaced : Type 0
 FindPlaced =
-    (h : Header) (a : Arrays) → Sound h a
+    (h : Header) (a : Arrays) → Formed h a
     → (x : ℕ) → x < h .buckets
     → (bin (table h a) x < bins (table h a))
     × (position (table h a) x < binSize (table h a) (bin (table h a) x))
@@ -86,7 +102,7 @@ FindPlaced =
 -- place undoes find, and every position below a bin's size has a bucket
 abbrev pub PlaceFound : Type 0
 PlaceFound =
-    (h : Header) (a : Arrays) → Sound h a
+    (h : Header) (a : Arrays) → Formed h a
     → (y p : ℕ) → y < bins (table h a) → p < binSize (table h a) y
     → (bucketAt (table h a) y p < h .buckets)
     × (bin (table h a) (bucketAt (table h a) y p) ≡ y)
@@ -98,7 +114,7 @@ PlaceRefused = (t : Table) (x : ℕ) → first (placeTests t x) ≡ first ((6, b
 
 abbrev pub FindRefused : Type 0
 FindRefused =
-    (h : Header) (a : Arrays) → Sound h a
+    (h : Header) (a : Arrays) → Formed h a
     → (y p : ℕ) → first (findTests (table h a) y p) ≡ first ((7, placePast (table h a) y p) ∷ [])
 
 -- a list falls exactly where one of its buckets is smaller than the one before it
@@ -141,24 +157,33 @@ SavedLength =
 abbrev pub savedFile : Header → Arrays → List ℕ → List ℕ
 savedFile h a buffer = take (saveReply h a buffer .length) (saveBytes h a buffer)
 
--- a sound table, saved into any buffer with room and loaded into any arrays with room, is the same table
+-- a header with the capacity p
+abbrev pub withCapacity : ℕ → Header → Header
+withCapacity p h =
+    record { buckets = h .buckets; capacity = p; «block_count» = h .«block_count»; «interval_count» = h .«interval_count» }
+
+-- a sound table, saved into any buffer with room and loaded into any arrays with room, is the same map: with any capacity that it
+-- allows, and with its own the same table
 abbrev pub SavedLoaded : Type 0
 SavedLoaded =
-    (h : Header) (a : Arrays) (buffer : List ℕ) (out : Arrays) → Sound h a → Fits h buffer → roomShort out ≡ false
-    → (loadRefusal (savedFile h a buffer) out ≡ 0)
-    × (loadReply (savedFile h a buffer) out .header ≡ h)
-    × (table h (loadArrays (savedFile h a buffer) out) ≡ table h a)
+    (h : Header) (a : Arrays) (buffer : List ℕ) (p : ℕ) (out : Arrays)
+    → Sound h a → Sound (withCapacity p h) a → Fits h buffer → roomShort out ≡ false
+    → (loadRefusal (savedFile h a buffer) p out ≡ 0)
+    × (loadReply (savedFile h a buffer) p out .header ≡ withCapacity p h)
+    × (table (withCapacity p h) (loadArrays (savedFile h a buffer) p out) ≡ table (withCapacity p h) a)
 
--- an accepted file of bytes, loaded and saved into any buffer with room, is the same file
+-- an accepted file of bytes, loaded with whatever capacity and saved into any buffer with room, is the same file
 abbrev pub LoadedSaved : Type 0
 LoadedSaved =
-    (f : List ℕ) (out : Arrays) (buffer : List ℕ) → ((i : ℕ) → i < length f → getD f i 0 < 256) → loadRefusal f out ≡ 0
-    → Fits (loadReply f out .header) buffer
-    → (saveReply (loadReply f out .header) (loadArrays f out) buffer .refusal ≡ 0)
-    × (savedFile (loadReply f out .header) (loadArrays f out) buffer ≡ f)
+    (f : List ℕ) (p : ℕ) (out : Arrays) (buffer : List ℕ)
+    → ((i : ℕ) → i < length f → getD f i 0 < 256) → loadRefusal f p out ≡ 0 → Fits (loadReply f p out .header) buffer
+    → (saveReply (loadReply f p out .header) (loadArrays f p out) buffer .refusal ≡ 0)
+    × (savedFile (loadReply f p out .header) (loadArrays f p out) buffer ≡ f)
 
 pub record TableClaims : Type 0 where
   pub soundIff : SoundIff
+  pub capacityLast : CapacityLast
+  pub overfillsWhere : OverfillsWhere
   pub sameSound : SameSound
   pub initialSound : InitialSound
   pub loadSound : LoadSound
@@ -166,6 +191,7 @@ pub record TableClaims : Type 0 where
   pub initialRead : InitialRead
   pub loadRead : LoadRead
   pub sizeDue : SizeDue
+  pub noneOverfull : NoneOverfull
   pub tableBalanced : TableBalanced
   pub findPlaced : FindPlaced
   pub placeFound : PlaceFound

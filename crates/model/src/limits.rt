@@ -3,6 +3,9 @@
 // B, the number of buckets, is 1 to this.
 pub const MAX_BUCKETS: u32 = 1_000_000_000;
 
+// P, the capacity, which is the number of positions in every bin (drawer), is 1 to this.
+pub const MAX_CAPACITY: u32 = 1_000_000_000;
+
 // n, the number of bins (drawers), is 1 to this.
 pub const MAX_BINS: u32 = 65_535;
 

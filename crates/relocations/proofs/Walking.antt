@@ -11,7 +11,7 @@ use lib.ListN.{length, getD, length-append}
 use Rattle.model.specs.Basics.{from, joined, before}
 use Rattle.model.specs.Table.{Shape, Interval, Arrays, table, bins, shape, over}
 use Rattle.model.specs.Refusal.{first}
-use Rattle.model.specs.Sound.{Sound}
+use Rattle.model.specs.Sound.{Formed}
 use Rattle.model.specs.Expansion.{dueAfter, someFall, plan, parts, planFor, expanded}
 use Rattle.model.specs.Relocations.{row, page}
 use Rattle.model.specs.Relocations
@@ -23,7 +23,7 @@ use Rattle.model.proofs.Counts.{below-or}
 use Rattle.model.proofs.Intervals.{before-mono}
 use Rattle.model.proofs.Tables.{length-from, from-ext, lentInterval}
 use Rattle.model.proofs.Listed.{size-most}
-use Rattle.model.proofs.Wells.{adjustment-most, sound-well}
+use Rattle.model.proofs.Wells.{adjustment-most, formed-well}
 use Rattle.model.proofs.Growths.{accepted, some-more}
 use Rattle.model.proofs.Drained.{drainedBlock, plan-stay, plan-move, plan-split}
 use Rattle.model.proofs.Rows.{rows-least, rowsBelow, rows-more, rowsBefore, Cut, end-within, rows-size, part-rows, part-row}
@@ -38,11 +38,11 @@ use Rattle.relocations.proofs.Spans.{page-full, page-fits, paged-behind
 
 -- max(0, B - T), from n and T
 pub rows-counted
-    : (h : Header) (a : Arrays) (s : Shape) → Sound h a → first (growthTests (table h a) s) ≡ 0 → (n m r : ℕ)
+    : (h : Header) (a : Arrays) (s : Shape) → Formed h a → first (growthTests (table h a) s) ≡ 0 → (n m r : ℕ)
     → n ≡ bins (table h a) → m ≡ n * (s .buckets / s .bins) + min n (s .buckets % s .bins) → r ≡ h .buckets - m
     → r ≡ length (Relocations.rows (table h a) (expanded (table h a) s))
 unfolding least most dueBelow shape table
-rows-counted h a s sound ok n m r e f g = rw (g, f, e) (sym (rows-least h a s sound ok))
+rows-counted h a s formed ok n m r e f g = rw (g, f, e) (sym (rows-least h a s formed ok))
 
 -- A PLAN AS A CUT
 
@@ -123,12 +123,12 @@ pub record Walking (h : Header) (a : Arrays) (s : Shape) (q : ℕ) (rows₀ rows
   pub filled : rows ≡ over (joined (page q (length rows₀) (rowsBelow (table h a) (expanded (table h a) s) start))) rows₀
 
 module _
-    (h : Header) (a : Arrays) (s : Shape) (sound : Sound h a) (ok : first (growthTests (table h a) s) ≡ 0)
+    (h : Header) (a : Arrays) (s : Shape) (formed : Formed h a) (ok : first (growthTests (table h a) s) ≡ 0)
     (falls : someFall (table h a) s ≡ true) where
   -- the sizes of the new block
   new-bins : (bins (table h a) < s .bins) × (s .bins < 2 ^ 32)
   new-bins = (
-    some-more (table h a) s (sound-well h a sound) (accepted (table h a) s ok) falls,
+    some-more (table h a) s (formed-well h a formed) (accepted (table h a) s ok) falls,
     omega (arith, accepted (table h a) s ok .binLimit),
   )
 
@@ -138,8 +138,8 @@ module _
   top-within j l =
       omega (
         arith,
-        before-mono (a .tops) (h .«block_count») (sound .topsRise) (h .«block_count») (suc j) l (le-refl _),
-        sound .binLimit,
+        before-mono (a .tops) (h .«block_count») (formed .topsRise) (h .«block_count») (suc j) l (le-refl _),
+        formed .binLimit,
       )
 
   -- interval i: its start, end and block's due, the rows before its own, those of the buckets below m, and those of its plan
@@ -165,15 +165,15 @@ module _
         (partsOf (plan due start (lentInterval a i) moved .action) end (placingAt a i) (getD (a .blocks) i 0) (h .«block_count»))
 
     here : (p : ℕ) × Planned due start (lentInterval a i) moved p
-    here = planned due start (lentInterval a i) moved (sound .endsRise i l) (adjustment-most h a sound i l)
+    here = planned due start (lentInterval a i) moved (formed .endsRise i l) (adjustment-most h a formed i l)
 
     -- there are no more rows than buckets
     rows-few : (m : ℕ) → m ≤ end → length (below m) ≤ m
     rows-few m k =
         omega (
           arith,
-          end-within h a sound i l,
-          rows-size h a s sound ok falls m (omega (arith, end-within h a sound i l)),
+          end-within h a formed i l,
+          rows-size h a s formed ok falls m (omega (arith, end-within h a formed i l)),
           size-most (drainedBlock (table h a) s) m (length (table h a .tops)),
         )
 
@@ -182,15 +182,15 @@ module _
         : Part (placingAt a i) (placing (bins (table h a)) (s .bins - bins (table h a)) (here .0 - moved)) (here .0) end moved
     part-here =
         let j = getD (a .blocks) i 0 in
-        let below = sound .blocksBelow i l in
+        let below = formed .blocksBelow i l in
         let low = here .1 .cut .after in
         let few = rows-few start (omega (arith, low, here .1 .cut .within)) in
         record {
           oldPlaces =
               record {
-                some = omega (arith, sound .topsRise j below);
-                fits = omega (arith, sound .topsRise j below, top-within j below);
-                ranked = omega (arith, adjustment-most h a sound i l);
+                some = omega (arith, formed .topsRise j below);
+                fits = omega (arith, formed .topsRise j below, top-within j below);
+                ranked = omega (arith, adjustment-most h a formed i l);
               };
           newPlaces =
               record { some = omega (arith, new-bins); fits = omega (arith, new-bins); ranked = omega arith };
@@ -210,7 +210,7 @@ module _
         ≡ from (placedRow (placingAt a i) (placing (bins (table h a)) (s .bins - bins (table h a)) (here .0 - moved)))
         (here .0)
         (end - here .0)
-    parted-from = here .1 .rows (placingAt a i) (bins (table h a)) (s .bins - bins (table h a)) _ _ (sound .blocksBelow i l)
+    parted-from = here .1 .rows (placingAt a i) (bins (table h a)) (s .bins - bins (table h a)) _ _ (formed .blocksBelow i l)
 
     step-fives : Fives parted
     step-fives =
@@ -220,10 +220,10 @@ module _
     step-rows : below end ≡ below start ++ parted
     unfolding placedRow
     step-rows =
-        part-rows h a s sound ok falls i (here .0) l (here .1 .cut)
+        part-rows h a s formed ok falls i (here .0) l (here .1 .cut)
         ∙ ap (λ rs. below start ++ rs)
         (from-ext (row (table h a) (expanded (table h a) s)) (placedRow (placingAt a i) _) (here .0) (end - here .0)
-        (λ x b e. part-row h a s sound ok falls i (here .0) l (here .1 .cut) x b (omega (arith, here .1 .cut .within)))
+        (λ x b e. part-row h a s formed ok falls i (here .0) l (here .1 .cut) x b (omega (arith, here .1 .cut .within)))
         ∙ sym parted-from)
 
     step-moved : plan due start (lentInterval a i) moved .moved ≡ length (below end)
@@ -265,7 +265,7 @@ module _
           → rows ≡ over (joined (page q (length rows₀) (Relocations.rows (table h a) (expanded (table h a) s)))) rows₀
       unfolding Relocations.rows table
       walking-ends l =
-          let last : start ≡ h .buckets = omega (arith, v .starts, v .within, sound .lastEnd, ap (before (a .ends)) (at-end l)) in
+          let last : start ≡ h .buckets = omega (arith, v .starts, v .within, formed .lastEnd, ap (before (a .ends)) (at-end l)) in
           v .filled
           ∙ ap (λ m. over (joined (page q (length rows₀) (rowsBelow (table h a) (expanded (table h a) s) m))) rows₀) last
 
@@ -278,7 +278,7 @@ module _
           let t = table h a in
           let u = expanded t s in
           let whole : start + (h .buckets - start) ≡ h .buckets =
-          omega (arith, v .starts, sound .endsRise i l, end-within h a sound i l) in
+          omega (arith, v .starts, formed .endsRise i l, end-within h a formed i l) in
           let count : moved ≡ length (rowsBelow t u start) = v .counted ∙ ap (λ m. length (rowsBelow t u m)) (sym (v .starts)) in
           v .filled
           ∙ ap (λ rs. over (joined rs) rows₀)
@@ -311,7 +311,7 @@ module _
               counted = rw (e, v .starts, v .counted, add-one i) (step-moved i l);
               below = rw (e, v .starts, v .counted, step-moved i l) (rows-few i l (end i l) (le-refl _));
               filled =
-                  same moved walking-parts (getD (a .blocks) i 0) (h .«block_count») (sound .blocksBelow i l)
+                  same moved walking-parts (getD (a .blocks) i 0) (h .«block_count») (formed .blocksBelow i l)
                   ∙ rw (e, f, g, v .filled, v .starts, v .counted)
                   (paged-behind q (below i l (before (a .ends) i)) (parted i l) rows₀
                   (fives-rows (table h a) (expanded (table h a) s) 0 (before (a .ends) i))

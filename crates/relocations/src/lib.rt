@@ -4,11 +4,11 @@ ghost use mathlib.Core.Path.{_≡_};
 ghost use mathlib.Core.List.{List, [], _∷_};
 ghost use lib.ListN.{length};
 ghost use lib.Seq.{sets};
-ghost use Rattle.model.specs.Lent.{LentSound, lent, tableGiven, tableNow};
+ghost use Rattle.model.specs.Lent.{LentFormed, lent, tableGiven, tableNow};
 ghost use Rattle.model.specs.Basics.{from, joined};
 ghost use Rattle.model.specs.Table.{arrays, interval, over, sizes};
 ghost use Rattle.model.specs.Refusal.{first as firstOf};
-ghost use Rattle.model.specs.Sound.{Sound};
+ghost use Rattle.model.specs.Sound.{Formed};
 ghost use Rattle.model.specs.Expansion.{parts};
 ghost use Rattle.model.specs.Relocations.{page};
 ghost use Rattle.model.specs.Calls.{growthTests};
@@ -340,7 +340,7 @@ fn write_moved(
     first: u32,
     rows: &mut [u32],
 )
-    requires { ⌜ LentSound h tops ends blocks adjustments ⌝ }
+    requires { ⌜ LentFormed h tops ends blocks adjustments ⌝ }
     requires { ⌜ ((buckets : ℕ) × Moves (tableNow h tops ends blocks adjustments) (sizes buckets bins) (now dues)) ⌝ }
     ensures { λ _. ⌜ ((buckets : ℕ) → Moves (tableGiven h tops ends blocks adjustments) (sizes buckets bins) (now (dues .entry))
         → now (rows .exit)
@@ -380,7 +380,7 @@ fn write_moved(
 // How many rows there are: max(0, B - T).
 pub fn relocation_count(h: Header, tops: &[u32], buckets: u32, bins: u32) -> u32
     requires { ⌜ TopsAsked h (now tops) (sizes buckets bins) ⌝ }
-    ensures { λ r. ⌜ ((ends blocks adjustments : List ℕ) → Sound h (arrays (now (tops .entry)) ends blocks adjustments)
+    ensures { λ r. ⌜ ((ends blocks adjustments : List ℕ) → Formed h (arrays (now (tops .entry)) ends blocks adjustments)
         → r ≡ length (movesOf (lent h (now (tops .entry)) ends blocks adjustments) (sizes buckets bins))) ⌝ }
 {
     let old_bins = bin_count(h, tops);
@@ -403,7 +403,7 @@ pub fn write_relocations(
     left: u32,
     rows: &mut [u32],
 ) -> u32
-    requires { ⌜ LentSound h tops ends blocks adjustments ⌝ }
+    requires { ⌜ LentFormed h tops ends blocks adjustments ⌝ }
     requires { ⌜ firstOf (growthTests (tableNow h tops ends blocks adjustments) (sizes buckets bins)) ≡ 0 ⌝ }
     requires { ⌜ first + left ≡ length (movesOf (tableNow h tops ends blocks adjustments) (sizes buckets bins)) ⌝ }
     ensures { λ r.

@@ -8,9 +8,9 @@ use native.Mathlib.Omega.{arith}
 use lib.ListN.{length, drop, length-append, length-drop}
 use borrow.Author.Tests.{le-ltb, ltb-false}
 use Rattle.model.specs.Basics.{if_then_else_}
-use Rattle.model.specs.Limits.{maxIntervals}
+use Rattle.model.specs.Limits.{maxCapacity, maxIntervals}
 use Rattle.model.specs.Table.{Table, Arrays, header, over, written, sizes}
-use Rattle.model.specs.Refusal.{first, roomShort, intervalsFull}
+use Rattle.model.specs.Refusal.{first, intervalsFull, capacityOutside, roomShort}
 use Rattle.model.specs.Sound.{Sound}
 use Rattle.model.specs.Initial.{initial}
 use Rattle.model.specs.Expansion.{expanded}
@@ -18,13 +18,11 @@ use Rattle.model.specs.Calls.{growthTests}
 use Rattle.model.specs.Console.{isFresh, isUnreadable, commandTests, commandRefusal}
 use Rattle.model.specs.declared.command.Command.{Command}
 use Rattle.model.specs.declared.command.Command.the-variants.{Fresh, Grow, Where, At, Moves, Unreadable}
-use Rattle.model.proofs.Refusals.{or-both, first-number, first-both, accepted, refused}
+use Rattle.model.proofs.Refusals.{or-both, not-outside, first-number, first-both, accepted, refused}
 use Rattle.model.proofs.Rooms.{Roomy, roomy}
 use Rattle.model.proofs.Tables.{table-written}
-use Rattle.model.proofs.Soundness.{growth-numbered, allowed, initial-table}
-use Rattle.model.proofs.Wells.{sound-well, well-sound}
-use Rattle.model.proofs.Growths.{accepted as growth-accepted}
-use Rattle.model.proofs.Expanded.{expanded-well}
+use Rattle.model.proofs.Soundness.{growth-numbered, fresh-sound}
+use Rattle.model.proofs.Expanded.{grown-sound}
 use Rattle.session.specs.Maps.{Maps, isEmpty, isGrown, mapOf, beforeOf, session, performed, next, sizesOf, GrownFrom, Right}
 use Rattle.session.proofs.Steps.{has-map, map-refusal, fresh-refusal}
 
@@ -56,14 +54,19 @@ room-kept u out e =
 
 -- STEPS
 
+-- the program's capacity is within its limits
+within : capacityOutside maxCapacity ≡ false
+unfolding capacityOutside
+within = not-outside maxCapacity maxCapacity (omega arith) (omega arith)
+
 module _ (m : Maps) (r : Right m) where
   fresh-right : (b n : ℕ) → commandRefusal (session m) (Fresh b n) ≡ 0 → Right (performed m (Fresh b n))
   unfolding performed isGrown
   fresh-right b n e =
       record {
-        room = room-kept (initial (sizes b n)) (m .this) (r .room);
+        room = room-kept (initial (sizes b n) maxCapacity) (m .this) (r .room);
         otherRoom = r .otherRoom;
-        sound = λ _. initial-table (sizes b n) (m .this) (allowed (sizes b n) (sym (fresh-refusal m b n) ∙ e));
+        sound = λ _. fresh-sound (sizes b n) maxCapacity (m .this) within (sym (fresh-refusal m b n) ∙ e);
         grown = λ g. absurd (false≢true g);
       }
 
@@ -86,10 +89,7 @@ module _ (m : Maps) (r : Right m) where
 
     new : Sound (header (expanded (mapOf m) (sizes b n))) (written (expanded (mapOf m) (sizes b n)) (m .other))
     unfolding mapOf
-    new =
-        well-sound (expanded (mapOf m) (sizes b n))
-        (expanded-well (mapOf m) (sizes b n) (sound-well _ _ old) (growth-accepted (mapOf m) (sizes b n) (tests .0)) (tests .1))
-        (m .other)
+    new = grown-sound (m .state .current) (m .this) (sizes b n) (m .other) old (tests .0) (tests .1)
 
     made : GrownFrom (performed m (Grow b n))
     unfolding performed mapOf beforeOf sizesOf header expanded

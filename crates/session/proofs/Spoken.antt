@@ -6,6 +6,7 @@ use mathlib.Core.List.{List, _++_, append-nil}
 use native.Mathlib.Decide.{ℕ-discrete}
 use native.Mathlib.Omega.{arith}
 use Rattle.model.specs.Basics.{if_then_else_, _and_, joined}
+use Rattle.model.specs.Limits.{maxCapacity}
 use Rattle.model.specs.Initial.{initial}
 use Rattle.model.specs.Expansion.{expanded}
 use Rattle.model.specs.Table.{sizes}
@@ -25,7 +26,7 @@ use Rattle.session.proofs.Steps.{map-current, has-map}
 performed-kept
     : (m : Maps) (c : Command) → commandRefusal (session m) c ≡ 0 → session (performed m c) ≡ accepted (session m) c
 unfolding performed accepted session sessionAt mapOf beforeOf isFresh
-performed-kept m (Fresh b n) e = ap fresh (table-written (initial (sizes b n)) (m .this))
+performed-kept m (Fresh b n) e = ap fresh (table-written (initial (sizes b n) maxCapacity) (m .this))
 performed-kept m (Grow b n) e =
     let here = map-current (m .state .stage) (beforeOf m) (mapOf m) (has-map m (Grow b n) refl e) in
     rw (here, table-written (expanded (mapOf m) (sizes b n)) (m .other))

@@ -9,12 +9,13 @@ use native.Mathlib.Omega.{arith}
 use lib.Dec.{eqb}
 use borrow.Author.Tests.{eq-eqb, ne-eqb}
 use Rattle.model.specs.Basics.{if_then_else_, _and_}
+use Rattle.model.specs.Limits.{maxCapacity}
 use Rattle.model.specs.Table.{Table, Arrays, header, written, sizes}
 use Rattle.model.specs.Refusal.{first}
 use Rattle.model.specs.Search.{placeAt}
 use Rattle.model.specs.Initial.{initial}
 use Rattle.model.specs.Expansion.{expanded, moved}
-use Rattle.model.specs.Calls.{answer, sizeTests, placeTests, findTests, tableReply, arraysAfter, findAnswer}
+use Rattle.model.specs.Calls.{answer, freshTests, placeTests, findTests, tableReply, arraysAfter, findAnswer}
 use Rattle.model.specs.Console.{noMap, current, isFresh, isUnreadable, commandTests, commandRefusal, acceptedAnswer, commandAnswer}
 use Rattle.model.specs.declared.command.Command.{Command}
 use Rattle.model.specs.declared.command.Command.the-variants.{Fresh, Grow, Where, At, Moves, Unreadable}
@@ -84,7 +85,7 @@ module _ (m : Maps) where
   unfolding commandRefusal session first if_then_else_ _and_
   map-refusal c e = rw (no-map (m .state .stage) _ _, e, map-current (m .state .stage) _ _ e)
 
-  pub fresh-refusal : (b n : ℕ) → commandRefusal (session m) (Fresh b n) ≡ first (sizeTests (sizes b n))
+  pub fresh-refusal : (b n : ℕ) → commandRefusal (session m) (Fresh b n) ≡ first (freshTests (sizes b n) maxCapacity)
   unfolding commandRefusal isFresh isUnreadable commandTests first if_then_else_
   fresh-refusal b n = rw (and-false (noMap (session m)))
 
@@ -139,7 +140,8 @@ module _ (m : Maps) where
 
   -- `fresh`, accepted
   pub fresh-step
-      : (b n r : ℕ) (left : Arrays) → r ≡ first (sizeTests (sizes b n)) → r ≡ 0 → left ≡ written (initial (sizes b n)) (m .this)
+      : (b n p r : ℕ) (left : Arrays) → r ≡ first (freshTests (sizes b n) maxCapacity) → r ≡ 0
+      → left ≡ written (initial (sizes b n) maxCapacity) (m .this) → p ≡ maxCapacity
       → Stepped m (Fresh b n)
       (record {
         state =
@@ -147,7 +149,7 @@ module _ (m : Maps) where
               stage = stage.Fresh;
               flipped = m .state .flipped;
               bins = n;
-              current = record { buckets = b; «block_count» = 1; «interval_count» = 1 };
+              current = record { buckets = b; capacity = p; «block_count» = 1; «interval_count» = 1 };
               before = m .state .before;
             };
         flip = false;
@@ -155,10 +157,10 @@ module _ (m : Maps) where
       })
       left (m .other)
   unfolding commandAnswer flips next answer if_then_else_ acceptedAnswer isGrow performed initial header
-  fresh-step b n r left q z w =
+  fresh-step b n p r left q z w c =
       let e : commandRefusal (session m) (Fresh b n) ≡ 0 = fresh-refusal b n ∙ sym q ∙ z in
       let yes = eq-eqb (commandRefusal (session m) (Fresh b n)) 0 e in
-      record { answer = rw yes; flip = rw (and-false (eqb (commandRefusal (session m) (Fresh b n)) 0)); maps = rw (yes, w) }
+      record { answer = rw yes; flip = rw (and-false (eqb (commandRefusal (session m) (Fresh b n)) 0)); maps = rw (yes, w, c) }
 
   module _ (e : isEmpty (m .state .stage) ≡ false) where
     here : current (session m) ≡ mapOf m

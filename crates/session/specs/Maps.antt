@@ -6,6 +6,7 @@ use mathlib.Core.List.{List, []}
 use lib.ListN.{drop}
 use lib.Dec.{eqb}
 use Rattle.model.specs.Basics.{if_then_else_, _and_}
+use Rattle.model.specs.Limits.{maxCapacity}
 use Rattle.model.specs.Table.{Shape, Table, Arrays, table, header, written, sizes}
 use Rattle.model.specs.Refusal.{first, roomShort}
 use Rattle.model.specs.Sound.{Sound}
@@ -63,8 +64,8 @@ session m = sessionAt (m .state .stage) (beforeOf m) (mapOf m)
 unfoldable pub performed : Maps → Command → Maps
 performed m (Fresh b n) =
     maps
-    (record { stage = stage.Fresh; flipped = m .state .flipped; bins = n; current = header (initial (sizes b n)); before = m .state .before })
-    (written (initial (sizes b n)) (m .this))
+    (record { stage = stage.Fresh; flipped = m .state .flipped; bins = n; current = header (initial (sizes b n) maxCapacity); before = m .state .before })
+    (written (initial (sizes b n) maxCapacity) (m .this))
     (m .other)
 performed m (Grow b n) =
     maps

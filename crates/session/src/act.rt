@@ -4,6 +4,7 @@ use crate::state::State;
 use crate::state::Step;
 use model::answer::Answer;
 use model::command::Command;
+use model::limits::MAX_CAPACITY;
 use model::table::Header;
 ghost use mathlib.Core.Path.{_≡_};
 ghost use mathlib.Core.Bool.{false};
@@ -60,7 +61,7 @@ fn fresh(
     requires { ⌜ roomShort (arraysNow tops ends blocks adjustments) ≡ false ⌝ }
     ensures { λ r. ⌜ Renews state (given tops ends blocks adjustments) (line.Fresh buckets bins) r (left tops ends blocks adjustments) ⌝ }
 {
-    let wrong = sizes::size_refusal(buckets, bins);
+    let wrong = sizes::fresh_refusal(buckets, bins, MAX_CAPACITY);
     if wrong != 0 {
         return refused(state, wrong);
     }
@@ -73,6 +74,7 @@ fn fresh(
             bins,
             current: Header {
                 buckets,
+                capacity: MAX_CAPACITY,
                 block_count: 1,
                 interval_count: 1,
             },

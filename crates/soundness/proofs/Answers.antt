@@ -47,5 +47,5 @@ module _ (h : Header) (tops ends blocks adjustments : List ℕ) where
         pub judged-holdings : v ≡ true → 15 ≡ first (ruleTests h (arrays tops ends blocks adjustments))
         judged-holdings t = sym (later ∙ first-here _ _ (sym held ∙ t))
 
-        pub judged-sound : w ≡ false → v ≡ false → 0 ≡ first (ruleTests h (arrays tops ends blocks adjustments))
-        judged-sound f g = sym (later ∙ first-skip _ _ (sym held ∙ g) ∙ first-skip _ _ f ∙ first-none)
+        pub judged-formed : w ≡ false → v ≡ false → 0 ≡ first (ruleTests h (arrays tops ends blocks adjustments))
+        judged-formed f g = sym (later ∙ first-skip _ _ (sym held ∙ g) ∙ first-skip _ _ f ∙ first-none)

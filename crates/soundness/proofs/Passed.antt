@@ -5,9 +5,11 @@ use mathlib.Core.Bool.{false}
 use mathlib.Core.List.{List, _++_}
 use native.Mathlib.Omega.{arith}
 use Rattle.model.specs.Table.{Arrays}
-use Rattle.model.specs.Refusal.{Test, first, headerOutside, arraysShort, topsWrong, endsWrong, blocksWrong}
+use Rattle.model.specs.Refusal.{Test, first, headerOutside, arraysShort, topsWrong, endsWrong, blocksWrong, holdingsWrong, adjustmentsWrong}
+use Rattle.model.specs.Sound.{Formed}
 use Rattle.model.specs.declared.table.Header.{Header}
-use Rattle.model.proofs.Refusals.{first-clear, first-skip}
+use Rattle.model.proofs.Refusals.{first-clear, first-skip, first-number, first-both, Numbered}
+use Rattle.model.proofs.Soundness.{passes-formed}
 use Rattle.model.proofs.Rules.{
   blocks-inside,
   intervals-inside,
@@ -19,7 +21,7 @@ use Rattle.model.proofs.Rules.{
   last-end,
   blocks-below,
 }
-use Rattle.soundness.specs.Passed.{Counted, layoutTests, TopsRight, IntervalsRight}
+use Rattle.soundness.specs.Passed.{Counted, layoutTests, ruleTests, TopsRight, IntervalsRight}
 
 -- 11 of a lent table
 pub lent-counted
@@ -70,3 +72,32 @@ module _ (h : Header) (tops ends blocks : List ℕ) (c : Counted h tops ends blo
         last = last-end h ends (w .endsPass);
         blocksBelow = λ i l. omega (arith, c .blockLimit, blocks-below h blocks (w .blocksPass) i l);
       }
+
+-- none of the tests of 12 to 16 has number 0
+pub rules-numbered : (h : Header) (a : Arrays) → Numbered (ruleTests h a)
+unfolding ruleTests layoutTests
+rules-numbered h a = omega arith
+
+layout-numbered : (h : Header) (a : Arrays) → Numbered (layoutTests h (a .tops) (a .ends) (a .blocks))
+unfolding layoutTests
+layout-numbered h a = omega arith
+
+-- a table that passes 11, and whose tests of 12 to 16 do not hold
+pub rules-formed
+    : (h : Header) (a : Arrays) → headerOutside h ≡ false → arraysShort h a ≡ false → first (ruleTests h a) ≡ 0 → Formed h a
+unfolding ruleTests
+rules-formed h a inside long e =
+    let (clear, e₂) = first-both (layoutTests h (a .tops) (a .ends) (a .blocks)) _ (layout-numbered h a) e in
+    let l = laid _ _ _ _ clear in
+    let (held, e₃) = first-number 15 (holdingsWrong h a) _ (omega arith) e₂ in
+    let (right, e₄) = first-number 16 (adjustmentsWrong h a) _ (omega arith) e₃ in
+    passes-formed h a
+    (record {
+      header = inside;
+      arrays = long;
+      tops = l .topsPass;
+      ends = l .endsPass;
+      blocks = l .blocksPass;
+      holdings = held;
+      adjustments = right;
+    })

@@ -31,8 +31,8 @@ unfoldable pub ruleTests : Header → Arrays → List Test
 ruleTests h a = layoutTests h (a .tops) (a .ends) (a .blocks) ++ ((15, holdingsWrong h a) ∷ (16, adjustmentsWrong h a) ∷ [])
 
 -- the header of a table of one block and one interval
-abbrev pub alone : ℕ → Header
-alone b = record { buckets = b; «block_count» = 1; «interval_count» = 1 }
+abbrev pub alone : ℕ → ℕ → Header
+alone b p = record { buckets = b; capacity = p; «block_count» = 1; «interval_count» = 1 }
 
 -- 11 and 12
 pub record TopsRight (h : Header) (tops : List ℕ) : Type 0 where

@@ -1,22 +1,25 @@
-// The check of a lent table: rules 11 to 16 of document 01. A rule's function says whether the table breaks it.
+// The check of a lent table: rules 11 to 16 of document 01, and 30. A rule's function says whether the table breaks it.
 use model::limits::BLOCKS;
 use model::limits::MAX_BINS;
 use model::limits::MAX_BLOCKS;
 use model::limits::MAX_BUCKETS;
+use model::limits::MAX_CAPACITY;
 use model::limits::MAX_INTERVALS;
 use model::table::Header;
+use sizes::is_outside;
+use sizes::overfull;
 use std::num::wrapping_sub_u32;
+use table::bin_count;
 use table::due_below;
 ghost use mathlib.Core.Path.{_≡_};
 ghost use mathlib.Core.Bool.{true, false};
 ghost use mathlib.Core.List.{List, [], _∷_};
 ghost use Prim.Native.Nat.{ℕ, _≤_, _<_};
 ghost use lib.ListN.{length, getD, replicate};
-ghost use Rattle.model.specs.Lent.{given};
+ghost use Rattle.model.specs.Lent.{TopsFormed, given};
 ghost use Rattle.model.specs.Limits.{maxBlocks};
 ghost use Rattle.model.specs.Table.{arrays};
 ghost use Rattle.model.specs.Refusal.{
-  outside,
   rises,
   headerOutside,
   arraysShort,
@@ -24,21 +27,12 @@ ghost use Rattle.model.specs.Refusal.{
   endsWrong,
   blocksWrong,
   holdingsWrong,
-  adjustmentsWrong,
+  capacityWrong,
   first,
 };
+ghost use Rattle.model.specs.Sound.{Formed};
 ghost use Rattle.model.specs.Calls.{tableTests};
 ghost use Rattle.soundness.specs.Passed.{Counted, layoutTests, ruleTests, alone, TopsRight, IntervalsRight, Held, Walked, Walks, Meets};
-
-// Whether x is 0 or above its limit.
-fn is_outside(limit: u32, x: u32) -> bool
-    ensures { λ r. ⌜ r ≡ outside limit x ⌝ }
-{
-    if x == 0 {
-        return true;
-    }
-    limit < x
-}
 
 // 11: B, G or k outside its limits.
 pub fn header_outside(h: Header) -> bool
@@ -306,16 +300,18 @@ fn judged(h: Header, tops: &[u32], ends: &[u32], blocks: &[u32], adjustments: &[
 // The same of a table of one block and one interval. Its counts are constants here, so that each rule is a few comparisons.
 pub fn judged_alone(
     buckets: u32,
+    capacity: u32,
     tops: &[u32],
     ends: &[u32],
     blocks: &[u32],
     adjustments: &[u32],
 ) -> u32
-    requires { ⌜ (Counted (alone buckets) (now tops) (now ends) (now blocks)) × (1 ≤ length (now adjustments)) ⌝ }
-    ensures { λ r. ⌜ r ≡ first (ruleTests (alone buckets) (given tops ends blocks adjustments)) ⌝ }
+    requires { ⌜ (Counted (alone buckets capacity) (now tops) (now ends) (now blocks)) × (1 ≤ length (now adjustments)) ⌝ }
+    ensures { λ r. ⌜ r ≡ first (ruleTests (alone buckets capacity) (given tops ends blocks adjustments)) ⌝ }
 {
     let h = Header {
         buckets,
+        capacity,
         block_count: 1,
         interval_count: 1,
     };
@@ -333,7 +329,32 @@ pub fn judged_alone(
     0
 }
 
-// The number of the first of rules 11 to 16 that the table breaks, or 0.
+// The same of any table.
+fn rule_refusal(h: Header, tops: &[u32], ends: &[u32], blocks: &[u32], adjustments: &[u32]) -> u32
+    requires { ⌜ (Counted h (now tops) (now ends) (now blocks)) × (h .«interval_count» ≤ length (now adjustments)) ⌝ }
+    ensures { λ r. ⌜ r ≡ first (ruleTests h (given tops ends blocks adjustments)) ⌝ }
+{
+    if h.block_count == 1 {
+        if h.interval_count == 1 {
+            return judged_alone(h.buckets, h.capacity, tops, ends, blocks, adjustments);
+        }
+    }
+    judged(h, tops, ends, blocks, adjustments)
+}
+
+// 30: P is 0 or above its limit, or below the size of the largest bin. In a map that passes rules 11 to 16 every bin has its due.
+pub fn capacity_wrong(h: Header, tops: &[u32]) -> bool
+    requires { ⌜ TopsFormed h (now tops) ⌝ }
+    ensures { λ r. ⌜ ((ends blocks adjustments : List ℕ) → Formed h (arrays (now (tops .entry)) ends blocks adjustments)
+        → r ≡ capacityWrong h (arrays (now (tops .entry)) ends blocks adjustments)) ⌝ }
+{
+    if is_outside(MAX_CAPACITY, h.capacity) {
+        return true;
+    }
+    overfull(h.capacity, h.buckets, bin_count(h, tops))
+}
+
+// The number of the first of rules 11 to 16 and 30 that the table breaks, or 0.
 pub fn check(h: Header, tops: &[u32], ends: &[u32], blocks: &[u32], adjustments: &[u32]) -> u32
     ensures { λ r. ⌜ r ≡ first (tableTests h (given tops ends blocks adjustments)) ⌝ }
 {
@@ -343,10 +364,12 @@ pub fn check(h: Header, tops: &[u32], ends: &[u32], blocks: &[u32], adjustments:
     if arrays_short(h, tops, ends, blocks, adjustments) {
         return 11;
     }
-    if h.block_count == 1 {
-        if h.interval_count == 1 {
-            return judged_alone(h.buckets, tops, ends, blocks, adjustments);
-        }
+    let broken = rule_refusal(h, tops, ends, blocks, adjustments);
+    if broken != 0 {
+        return broken;
     }
-    judged(h, tops, ends, blocks, adjustments)
+    if capacity_wrong(h, tops) {
+        return 30;
+    }
+    0
 }

@@ -8,7 +8,7 @@ ghost use Prim.Native.Nat.{ℕ, _+_, _*_, _^_, min, _≤_, _<_};
 ghost use mathlib.Core.List.{List};
 ghost use mathlib.Core.Path.{_≡_};
 ghost use lib.ListN.{length, getD, take};
-ghost use Rattle.model.specs.Lent.{TopsSound, lent};
+ghost use Rattle.model.specs.Lent.{TopsFormed, lent};
 ghost use Rattle.model.specs.Basics.{before as entryBefore};
 ghost use Rattle.model.specs.Limits.{maxIntervals};
 ghost use Rattle.model.specs.Table.{bins as binsOf, over};
@@ -38,7 +38,7 @@ pub fn before(xs: &[u32], i: usize) -> u32
 
 // n: the last top.
 pub fn bin_count(h: Header, tops: &[u32]) -> u32
-    requires { ⌜ TopsSound h (now tops) ⌝ }
+    requires { ⌜ TopsFormed h (now tops) ⌝ }
     ensures { λ r. ⌜ ((ends blocks adjustments : List ℕ) → r ≡ binsOf (lent h (now (tops .entry)) ends blocks adjustments)) ⌝ }
 {
     before(tops, h.block_count as usize)

@@ -1,9 +1,10 @@
 -- `expansion::accepted` meets its contract: rule 8, then the new table. Assumes nothing.
 use mathlib.Core.Path.{_≡_, refl, sym, _∙_}
 use mathlib.Core.Bool.{false}
+use native.Mathlib.Omega.{arith}
 use Rattle.model.specs.Lent.{lent}
 use Rattle.model.specs.Refusal.{intervalsFull}
-use Rattle.model.specs.Table.{sizes}
+use Rattle.model.specs.Table.{table, sizes}
 use Rattle.expansion.proofs.Grows.{not-full, grow-same, grow-full, grow-accepted}
 use borrow.Author.Needs.{needs}
 use Rattle.expansion.proofs.accepted.Statement.{statement}
@@ -54,12 +55,13 @@ same-length-4 : tie.Need-same-length-4
 same-length-4 c = search needs
 
 returns-2 : tie.Need-returns-2
+unfolding table
 returns-2 c =
     let stored = c .before .before .before .before .before .before .before .before in
     let accepted = stored .before .before .before .before .before in
     let grows = start accepted .pre .0 in
     let (counted, written) = stored .write-expanded .ensures in
-    grow-accepted _ _ _ 0 (sym (grows .asked)) _ _ refl (room accepted) refl refl (grows .counted) (counted .intervals) (counted .moved) (counted .least)
+    grow-accepted _ _ _ 0 (sym (grows .asked)) _ _ refl (room accepted) refl refl (omega arith) (grows .counted) (counted .intervals) (counted .moved) (counted .least)
     written
 
 pub accepted-spec : {M : Type 1} → statement M

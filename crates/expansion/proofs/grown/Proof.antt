@@ -56,13 +56,13 @@ accepted-requires c κs =
     let shared = falling .before in
     let held = shared .before .before in
     let accepted = held .before .before in
-    let (sound, room) = start accepted .pre in (
+    let (formed, room) = start accepted .pre in (
       record {
-        sound = sound;
+        formed = formed;
         asked = asked accepted;
-        before = held .dues-before .ensures _ _ _ sound;
+        before = held .dues-before .ensures _ _ _ formed;
         after = shared .dues-after .ensures _ _ _;
-        falling = falling .some-fall .ensures _ _ _ sound;
+        falling = falling .some-fall .ensures _ _ _ formed;
         counted = counting .blocks-after .ensures _ _ _ _ refl;
       },
       room,

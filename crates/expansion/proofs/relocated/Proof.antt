@@ -1,5 +1,5 @@
 -- `expansion::relocated` meets its contract: rules 1 to 5, then 9, then the rows. Assumes nothing.
-use mathlib.Core.Path.{_≡_, refl, sym, _∙_}
+use mathlib.Core.Path.{_≡_, refl, sym}
 use native.Mathlib.Omega.{arith}
 use lib.ListN.{length}
 use Rattle.model.specs.Lent.{lent}
@@ -27,7 +27,9 @@ z c = sizes (start c .args .buckets) (start c .args .bins)
 
 -- they accept the growth, and the total is the number of rows
 asked : (c : tie.Else1) → first (growthTests (t c) (z c)) ≡ 0
-asked c = sym (c .before .growth-refusal .ensures _ _ _) ∙ c .if1 .left
+asked c =
+    let args = start c .args in
+    omega (arith, c .before .growth-refusal .ensures (args .ends .now) (args .blocks .now) (args .adjustments .now), c .if1 .left)
 
 total : (c : tie.After-relocation-count) → c .relocation-count .result ≡ length (movesOf (t (c .before)) (z (c .before)))
 total c = c .relocation-count .ensures _ _ _ (start (c .before) .pre)
@@ -41,7 +43,8 @@ refused-list-requires c κs = search needs
 returns : tie.Need-returns
 returns c =
     moves-same _ _ _ _ _ _ _ (c .refused-list .ensures)
-    (moves-refused _ _ _ _ _ (c .before .before .growth-refusal .ensures _ _ _) (c .before .if1 .taken))
+    (moves-refused _ _ _ _ _ (c .before .before .growth-refusal .ensures _ _ _)
+    (λ none. c .before .if1 .taken (omega (arith, none))))
 
 relocation-count-requires : tie.Need-relocation-count-requires
 relocation-count-requires c κs = record { whole = lent-tops _ _ (start c .pre); asked = asked c }

@@ -21,14 +21,14 @@ Inv-loop h ends blocks adjustments buckets dues intervals₀ start₀ moved₀ i
     (i ≤ h .«interval_count»)
     × (intervals ≤ 2 * i)
     × ((tops : List ℕ) (bins : ℕ) (d : Drains h ends blocks adjustments buckets dues tops bins)
-    → Making h (arrays tops ends blocks adjustments) (sizes buckets bins) (d .sound) intervals i start moved)
+    → Making h (arrays tops ends blocks adjustments) (sizes buckets bins) (d .formed) intervals i start moved)
 
 abbrev μ-loop : tie.MeasureT-loop
 μ-loop h ends blocks adjustments buckets dues intervals₀ start₀ moved₀ i₀ intervals start moved i =
     h .«interval_count» - i
 
 loop-holds : tie.Need-loop-holds Inv-loop μ-loop
-loop-holds c = (omega arith, omega arith, λ tops bins d. making-start _ _ _ (d .sound))
+loop-holds c = (omega arith, omega arith, λ tops bins d. making-start _ _ _ (d .formed))
 
 cast-if1 : tie.Need-cast-if1 Inv-loop μ-loop
 cast-if1 c = omega arith
@@ -37,7 +37,7 @@ plan-at-requires : tie.Need-plan-at-requires Inv-loop μ-loop
 plan-at-requires c κs =
     let given = c .before .before .before .before .before .before .pre in
     let walk = c .before .before .loop .inv .2 _ _ (given .holds) .walk in
-    interval-at _ _ (given .holds .sound) _ _ _ (omega arith) (walk .starts) (walk .below)
+    interval-at _ _ (given .holds .formed) _ _ _ (omega arith) (walk .starts) (walk .below)
 
 left-behind-requires : tie.Need-left-behind-requires Inv-loop μ-loop
 unfolding table
@@ -51,7 +51,7 @@ part-count-requires c κs = search needs
 add-intervals : tie.Need-add-intervals Inv-loop μ-loop
 add-intervals c =
     let given = c .before .before .before .before .before .before .before .before .before .pre in
-    omega (arith, c .part-count .ensures .0, given .holds .sound .intervalLimit)
+    omega (arith, c .part-count .ensures .0, given .holds .formed .intervalLimit)
 
 mul-start : tie.Need-mul-start Inv-loop μ-loop
 mul-start c = omega arith
@@ -75,17 +75,17 @@ loop-again c =
       omega (arith, c .before .part-count .ensures .0),
       λ tops bins d.
           let a = arrays tops (start .args .ends .now) (start .args .blocks .now) (start .args .adjustments .now) in
-          making-more _ _ (sizes _ bins) (d .sound) _ i _ _ (turn .inv .2 tops bins d) (omega arith) _
-          (planned _ _ (d .sound) _ (start .args .dues .now) (d .after) _ _ _ (omega arith) _ (c .before .before .before .plan-at .ensures))
+          making-more _ _ (sizes _ bins) (d .formed) _ i _ _ (turn .inv .2 tops bins d) (omega arith) _
+          (planned _ _ (d .formed) _ (start .args .dues .now) (d .after) _ _ _ (omega arith) _ (c .before .before .before .plan-at .ensures))
           _
-          (c .before .part-count .ensures .1 (lentInterval a i) (start .args .h .«block_count») (d .sound .blocksBelow i (omega arith))
+          (c .before .part-count .ensures .1 (lentInterval a i) (start .args .h .«block_count») (d .formed .blocksBelow i (omega arith))
           ∙ ap (λ m. length (made p (lentInterval a i) (start .args .h .«block_count») m)) (c .before .before .left-behind .ensures)),
     )
 
 returns : tie.Need-returns Inv-loop μ-loop
 returns c tops bins d =
     let turn = c .before .before .loop in
-    making-end _ _ (sizes _ bins) (d .sound) _ (turn .i) _ _ (turn .inv .2 tops bins d) (omega arith)
+    making-end _ _ (sizes _ bins) (d .formed) _ (turn .i) _ _ (turn .inv .2 tops bins d) (omega arith)
 
 pub count-drained-spec : {M : Type 1} → statement M
 count-drained-spec =

@@ -6,7 +6,7 @@ use borrow.Author.Needs.{needs}
 use Rattle.model.specs.Limits.{maxIntervals}
 use Rattle.model.specs.Refusal.{intervalsFull}
 use Rattle.model.specs.Table.{sizes}
-use Rattle.model.proofs.Wells.{sound-well}
+use Rattle.model.proofs.Wells.{formed-well}
 use Rattle.model.proofs.Growths.{accepted, block-limits}
 use Rattle.expansion_count.proofs.Bounds.{few-fit}
 use Rattle.expansion_count.proofs.intervals_full.Statement.{statement}
@@ -15,10 +15,10 @@ use Rattle.expansion_count.proofs.intervals_full.Tie as tie
 add-if1 : tie.Need-add-if1
 add-if1 c =
     let g = c .before .before .before .before .pre .holds in
-    omega (arith, g .sound .intervalLimit, g .counted, block-limits _ _ (sound-well _ _ (g .sound)) (accepted _ _ (g .asked)) .1)
+    omega (arith, g .formed .intervalLimit, g .counted, block-limits _ _ (formed-well _ _ (g .formed)) (accepted _ _ (g .asked)) .1)
 
 returns : tie.Need-returns
-returns c tops bins g = sym (few-fit _ _ (sizes _ bins) (g .sound) (g .asked) (omega (arith, c .if1 .taken, g .counted)))
+returns c tops bins g = sym (few-fit _ _ (sizes _ bins) (g .formed) (g .asked) (omega (arith, c .if1 .taken, g .counted)))
 
 measure-requires : tie.Need-measure-requires
 measure-requires c κs = search needs

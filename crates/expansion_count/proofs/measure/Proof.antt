@@ -18,7 +18,7 @@ count-drained-requires c κs =
 returns : tie.Need-returns
 returns c tops bins g =
     c .count-drained .ensures tops bins (grows-drains g)
-    ∙ sym (drained-count _ _ _ (g .sound) (g .asked) (sym (g .falling) ∙ c .before .if1 .taken))
+    ∙ sym (drained-count _ _ _ (g .formed) (g .asked) (sym (g .falling) ∙ c .before .if1 .taken))
 
 cast-last : tie.Need-cast-last
 cast-last c = search needs
@@ -48,7 +48,7 @@ returns-2 c tops bins g =
     let t = lent (start .args .h) tops (start .args .ends .now) (start .args .blocks .now) (start .args .adjustments .now) in
     let s = sizes (start .args .buckets) bins in
     let pieces = c .before .count-pieces .ensures .1 t s (lengthTo t s) (fills-shares _ _ _ _ _ fills) in
-    omega (arith, rw (g .counted) at pieces, filled-count _ _ _ (g .sound) (g .asked) (fills .none))
+    omega (arith, rw (g .counted) at pieces, filled-count _ _ _ (g .formed) (g .asked) (fills .none))
 
 pub measure-spec : {M : Type 1} → statement M
 measure-spec =

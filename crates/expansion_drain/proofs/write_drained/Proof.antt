@@ -59,13 +59,13 @@ cast-last : tie.Need-cast-last Inv-loop μ-loop
 cast-last c = omega arith
 
 sub-last : tie.Need-sub-last Inv-loop μ-loop
-sub-last c = omega (arith, c .before .before .before .before .before .before .before .pre .holds .drains .sound .someIntervals)
+sub-last c = omega (arith, c .before .before .before .before .before .before .before .pre .holds .drains .formed .someIntervals)
 
 loop-holds : tie.Need-loop-holds Inv-loop μ-loop
 unfolding before
 loop-holds c = (
-  omega (arith, c .before .before .before .before .before .before .before .pre .holds .drains .sound .someIntervals),
-  λ tops bins d. (walk-start _ _ _, rw (make-all _ _ (sizes _ bins) (d .sound)) (writing-start _ _ _ _ _)),
+  omega (arith, c .before .before .before .before .before .before .before .pre .holds .drains .formed .someIntervals),
+  λ tops bins d. (walk-start _ _ _, rw (make-all _ _ (sizes _ bins) (d .formed)) (writing-start _ _ _ _ _)),
 )
 
 -- AN INTERVAL
@@ -86,7 +86,7 @@ turn-at
 turn-at c =
     let d = entry c .pre .holds .drains in
     let (walk, _) = c .loop .inv .1 _ _ d in
-    interval-at _ _ (d .sound) _ _ _ (c .loop .inv .0) (walk .starts) (walk .below)
+    interval-at _ _ (d .formed) _ _ _ (c .loop .inv .0) (walk .starts) (walk .below)
 
 -- its plan, with the m new buckets behind it
 module _
@@ -111,16 +111,16 @@ module _
           (made p (lentInterval (a (entry c) tops) i) (entry c .args .h .«block_count») m)
           (toMake (entry c .args .h) (a (entry c) tops) s (i + 1) (getD (entry c .args .ends .now) i 0) (p .moved))
       turn-made =
-          made-first _ _ (sizes (entry c .args .buckets) bins) (d .sound) i (start c) (c .loop .moved) (c .loop .inv .0) p
-          (planned _ _ (d .sound) _ (entry c .args .dues .now) (d .after) _ _ _ (c .loop .inv .0) _ e) m q
+          made-first _ _ (sizes (entry c .args .buckets) bins) (d .formed) i (start c) (c .loop .moved) (c .loop .inv .0) p
+          (planned _ _ (d .formed) _ (entry c .args .dues .now) (d .after) _ _ _ (c .loop .inv .0) _ e) m q
 
       turn-walk
           : Walk (entry c .args .h) (a (entry c) tops) (sizes (entry c .args .buckets) bins)
           (i + 1) (getD (entry c .args .ends .now) i 0) (p .moved)
       turn-walk =
           walk-next _ _ _ _ (start c) (c .loop .moved) (c .loop .inv .0) _
-          (planned _ _ (d .sound) _ (entry c .args .dues .now) (d .after) _ _ _ (c .loop .inv .0) _ e)
-          (d .sound) (c .loop .inv .1 tops bins d .0)
+          (planned _ _ (d .formed) _ (entry c .args .dues .now) (d .after) _ _ _ (c .loop .inv .0) _ e)
+          (d .formed) (c .loop .inv .1 tops bins d .0)
 
     -- what its writing asks for
     turn-ready
@@ -134,13 +134,13 @@ module _
         let given = entry c .pre .holds in
         let d = given .drains in
         let s = sizes (entry c .args .buckets) (entry c .pre .other) in
-        let fits = behind-fits _ _ s (d .sound) i (c .loop .inv .0) (accepted _ _ (d .asked) .moreBuckets) in (
-          (d .sound .blocksBelow i (c .loop .inv .0), turn-walk _ _ d .below, omega (arith, entry c .fits .buckets)),
+        let fits = behind-fits _ _ s (d .formed) i (c .loop .inv .0) (accepted _ _ (d .asked) .moreBuckets) in (
+          (d .formed .blocksBelow i (c .loop .inv .0), turn-walk _ _ d .below, omega (arith, entry c .fits .buckets)),
           writing-part (c .loop .inv .1 _ _ d .1) (turn-made _ _ d) (room-less (omega arith) (given .room)),
         )
 
 before-requires : tie.Need-before-requires Inv-loop μ-loop
-before-requires c κs = omega (arith, entry (c .before) .pre .holds .drains .sound .endsLong)
+before-requires c κs = omega (arith, entry (c .before) .pre .holds .drains .formed .endsLong)
 
 plan-at-requires : tie.Need-plan-at-requires Inv-loop μ-loop
 plan-at-requires c κs = rw (c .before2 .ensures) (turn-at (c .before .before))
@@ -205,7 +205,7 @@ loop-again c =
 -- THE LAST INTERVAL
 
 before-requires-2 : tie.Need-before-requires-2 Inv-loop μ-loop
-before-requires-2 c κs = omega (arith, entry (c .before) .pre .holds .drains .sound .endsLong)
+before-requires-2 c κs = omega (arith, entry (c .before) .pre .holds .drains .formed .endsLong)
 
 plan-at-requires-2 : tie.Need-plan-at-requires-2 Inv-loop μ-loop
 plan-at-requires-2 c κs = rw (c .before3 .ensures) (turn-at (c .before .before))
@@ -302,8 +302,8 @@ module _ (c : tie.After-write-parts2 Inv-loop μ-loop) where
 
   place-fits : c .write-parts2 .result < 2 ^ 32
   place-fits =
-      let sound = growth .sound in
-      omega (arith, all-counted _ _ growth, drained-most _ _ (s _ _ growth) sound, sound .intervalLimit, sound .blockLimit)
+      let formed = growth .formed in
+      omega (arith, all-counted _ _ growth, drained-most _ _ (s _ _ growth) formed, formed .intervalLimit, formed .blockLimit)
 
 cast-t37 : tie.Need-cast-t37 Inv-loop μ-loop
 cast-t37 c = omega (arith, place-fits (c .before .before .before .before .before .before))

@@ -15,7 +15,7 @@ bin-count-requires : tie.Need-bin-count-requires
 bin-count-requires c κs = search needs
 
 add-result : tie.Need-add-result
-add-result c = omega (arith, c .before .before .before .before .pre .sound .blockLimit)
+add-result c = omega (arith, c .before .before .before .before .pre .formed .blockLimit)
 
 returns : tie.Need-returns
 unfolding table
@@ -26,7 +26,7 @@ returns c ends blocks adjustments s e =
       arith,
       ap length (tops-more t s (omega (arith, c .before .before .bin-count .ensures ends blocks adjustments, c .before .if1 .taken))),
       length-append (t .tops) (s .bins ∷ []),
-      tops-length _ _ (start .pre .sound),
+      tops-length _ _ (start .pre .formed),
     )
 
 returns-2 : tie.Need-returns-2
@@ -34,7 +34,7 @@ unfolding table
 returns-2 c ends blocks adjustments s e =
     sym
     (ap length (tops-same _ s (omega (arith, c .before .bin-count .ensures ends blocks adjustments, c .if1 .left)))
-    ∙ tops-length _ _ (c .before .before .before .pre .sound))
+    ∙ tops-length _ _ (c .before .before .before .pre .formed))
 
 pub blocks-after-spec : {M : Type 1} → statement M
 blocks-after-spec = tie.close (tie.spec bin-count-requires add-result returns returns-2)

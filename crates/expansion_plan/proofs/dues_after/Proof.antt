@@ -5,18 +5,18 @@ use mathlib.Core.Path.{_≡_, refl, sym, _∙_, ap}
 use native.Mathlib.Omega.{arith}
 use Rattle.model.specs.Table.{Shape, Table, bins, table, sizes}
 use Rattle.model.specs.Balance.{dueBelow}
-use Rattle.model.proofs.Wells.{Well, tops-length, bins-last, sound-well}
+use Rattle.model.proofs.Wells.{Well, tops-length, bins-last, formed-well}
 use Rattle.model.proofs.Growths.{Accepted, accepted}
 use Rattle.model.proofs.Shares.{due-within, new-room, after-more, after-same}
-use Rattle.model.specs.Lent.{TopsSound, lent}
+use Rattle.model.specs.Lent.{TopsFormed, lent}
 use Rattle.model.specs.Expansion.{newTops, dueAfter}
-use Rattle.expansion_plan.proofs.Turns.{sound-tops}
+use Rattle.expansion_plan.proofs.Turns.{formed-tops}
 use borrow.Author.Needs.{needs}
 use Rattle.expansion_plan.proofs.dues_after.Statement.{statement}
 use Rattle.expansion_plan.proofs.dues_after.Tie as tie
 
--- a sound table with the tops lent, and the sizes asked for
-abbrev rest : (s : tie.Start) → TopsSound (s .args .h) (s .args .tops .now)
+-- a formed table with the tops lent, and the sizes asked for
+abbrev rest : (s : tie.Start) → TopsFormed (s .args .h) (s .args .tops .now)
 rest s = s .pre .0 .whole
 
 abbrev t : tie.Start → Table
@@ -26,7 +26,7 @@ abbrev z : tie.Start → Shape
 z s = sizes (s .args .buckets) (s .args .bins)
 
 well : (s : tie.Start) → Well (t s)
-well s = sound-well _ _ (rest s .sound)
+well s = formed-well _ _ (rest s .formed)
 
 asked : (s : tie.Start) → Accepted (t s) (z s)
 asked s = accepted _ _ (s .pre .0 .asked)
@@ -51,8 +51,8 @@ cast-block-dues c = search needs
 block-dues-requires : tie.Need-block-dues-requires
 block-dues-requires c κs =
     let start = c .before .before .before .before in
-    let sound = rest start .sound in
-    (sound-tops _ _ sound _ (omega (arith, bins-last _ _ sound, asked start .moreBins)), start .pre .1)
+    let formed = rest start .formed in
+    (formed-tops _ _ formed _ (omega (arith, bins-last _ _ formed, asked start .moreBins)), start .pre .1)
 
 div-due-below : tie.Need-div-due-below
 div-due-below c = asked (c .before .before .before .before .before .before) .someBins
@@ -86,7 +86,7 @@ element-write-dues c =
     let start = n .before .before in
     omega (
       arith,
-      tops-length _ _ (rest start .sound),
+      tops-length _ _ (rest start .formed),
       new-room (t start) (z start) (well start) (asked start) (omega (arith, old n, c .before .before .if1 .taken)),
     )
 
@@ -97,7 +97,7 @@ returns c ends blocks adjustments j l =
     let start = n .before .before in
     let below = ap (dueBelow (z start)) (old n) in
     let within = due-within (z start) (n .bin-count .result) (omega (arith, old n, asked start .moreBins)) in
-    (rw (tops-length _ _ (rest start .sound)) at
+    (rw (tops-length _ _ (rest start .formed)) at
     (after-more (t start) (z start) (well start) (asked start) (omega (arith, old n, c .before .before .if1 .taken))
     (start .args .buckets - c .before .due-below .result)
     (c .before .before .before .block-dues .last .1 .1 .1 .1 .0)

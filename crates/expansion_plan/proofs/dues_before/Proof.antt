@@ -1,10 +1,10 @@
--- `expansion_plan::dues_before` meets its contract: a block of a sound table has its due. Assumes nothing.
+-- `expansion_plan::dues_before` meets its contract: a block of a formed table has its due. Assumes nothing.
 use Rattle.model.specs.Table.{shape, table, sizes}
 use Rattle.model.specs.Due.{dueOfBlock}
-use Rattle.model.proofs.Wells.{bins-last, sound-well}
+use Rattle.model.proofs.Wells.{bins-last, formed-well}
 use Rattle.model.proofs.Shares.{has-dues}
 use Rattle.model.specs.Lent.{lent}
-use Rattle.expansion_plan.proofs.Turns.{sound-tops}
+use Rattle.expansion_plan.proofs.Turns.{formed-tops}
 use mathlib.Core.Path.{sym, _∙_, ap}
 use native.Mathlib.Omega.{arith}
 use borrow.Author.Needs.{needs}
@@ -21,17 +21,17 @@ block-dues-requires : tie.Need-block-dues-requires
 block-dues-requires c κs =
     let (tops, zeros) = c .before .before .before .before .pre in
     let n = c .before .before .bin-count .ensures (tops .ends) (tops .blocks) (tops .adjustments) in
-    (sound-tops _ _ (tops .sound) _ (omega (arith, n, bins-last _ _ (tops .sound))), zeros)
+    (formed-tops _ _ (tops .formed) _ (omega (arith, n, bins-last _ _ (tops .formed))), zeros)
 
 returns : tie.Need-returns
 unfolding shape table
-returns c ends blocks adjustments sound j l =
+returns c ends blocks adjustments formed j l =
     let start = c .before .before .before .before .before in
     let t = lent (start .args .h) (start .args .tops .now) ends blocks adjustments in
     let n = c .before .before .before .bin-count .ensures ends blocks adjustments in
     c .block-dues .ensures .1 j l
     ∙ ap (λ n. dueOfBlock (sizes (start .args .h .buckets) n) (t .tops) j) n
-    ∙ sym (has-dues t (sound-well _ _ sound) j)
+    ∙ sym (has-dues t (formed-well _ _ formed) j)
 
 pub dues-before-spec : {M : Type 1} → statement M
 dues-before-spec =

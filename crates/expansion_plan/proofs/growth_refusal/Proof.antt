@@ -10,6 +10,7 @@ use Rattle.model.specs.Lent.{lent}
 use lib.ListN.{length, take}
 use lib.Seq.{length-take-le}
 use Rattle.model.proofs.Asked.{asked-sizes, asked-fewer, asked-narrower, asked-full, asked-wider, asked-same, asked-more}
+use Rattle.model.proofs.Soundness.{allowed}
 use borrow.Author.Needs.{needs}
 use Rattle.expansion_plan.proofs.growth_refusal.Statement.{statement}
 use Rattle.expansion_plan.proofs.growth_refusal.Tie as tie
@@ -31,7 +32,7 @@ sized c = sym (c .before .size-refusal .ensures) ∙ c .if1 .left
 -- the number of blocks
 count
     : (c : tie.Else1) → length (take (entry c .args .h .«block_count») (entry c .args .tops .now)) ≡ entry c .args .h .«block_count»
-count c = length-take-le _ _ (entry c .pre .sound .topsLong)
+count c = length-take-le _ _ (entry c .pre .formed .topsLong)
 
 size-refusal-requires : tie.Need-size-refusal-requires
 size-refusal-requires c κs = search needs
@@ -68,15 +69,20 @@ returns-4 c ends blocks adjustments =
     (omega (arith, n, c .before .before .if4 .taken))
     (count p ∙ c .if5 .taken))
 
+overfull-refusal-requires : tie.Need-overfull-refusal-requires
+overfull-refusal-requires c κs = allowed _ (sized (c .before .before .before .before .before .before .before)) .someBins
+
 returns-5 : tie.Need-returns-5
 unfolding table
 returns-5 c ends blocks adjustments =
-    let p = c .before .before .before .before .before .before .before in
-    let n = c .before .before .before .before .bin-count .ensures ends blocks adjustments in
-    sym
-    (asked-wider (t (entry p) ends blocks adjustments) (z (entry p)) (sized p) (c .before .before .before .before .before .if2 .left)
-    (omega (arith, n, c .before .before .if4 .taken))
-    (λ e. c .if5 .left (sym (count p) ∙ e)))
+    let l = c .before in
+    let p = l .before .before .before .before .before .before .before in
+    let n = l .before .before .before .before .bin-count .ensures ends blocks adjustments in
+    c .overfull-refusal .ensures
+    ∙ sym
+    (asked-wider (t (entry p) ends blocks adjustments) (z (entry p)) (sized p) (l .before .before .before .before .before .if2 .left)
+    (omega (arith, n, l .before .before .if4 .taken))
+    (λ e. l .if5 .left (sym (count p) ∙ e)))
 
 returns-6 : tie.Need-returns-6
 unfolding table
@@ -88,15 +94,20 @@ returns-6 c ends blocks adjustments =
     (omega (arith, n, c .before .before .before .if3 .left, c .before .before .if4 .left))
     (c .if6 .taken))
 
+overfull-refusal-requires-2 : tie.Need-overfull-refusal-requires-2
+overfull-refusal-requires-2 c κs = allowed _ (sized (c .before .before .before .before .before .before .before)) .someBins
+
 returns-7 : tie.Need-returns-7
 unfolding table
 returns-7 c ends blocks adjustments =
-    let p = c .before .before .before .before .before .before .before in
-    let n = c .before .before .before .before .bin-count .ensures ends blocks adjustments in
-    sym
-    (asked-more (t (entry p) ends blocks adjustments) (z (entry p)) (sized p) (c .before .before .before .before .before .if2 .left)
-    (omega (arith, n, c .before .before .before .if3 .left, c .before .before .if4 .left))
-    (c .if6 .left))
+    let l = c .before in
+    let p = l .before .before .before .before .before .before .before in
+    let n = l .before .before .before .before .bin-count .ensures ends blocks adjustments in
+    c .overfull-refusal2 .ensures
+    ∙ sym
+    (asked-more (t (entry p) ends blocks adjustments) (z (entry p)) (sized p) (l .before .before .before .before .before .if2 .left)
+    (omega (arith, n, l .before .before .before .if3 .left, l .before .before .if4 .left))
+    (l .if6 .left))
 
 pub growth-refusal-spec : {M : Type 1} → statement M
 growth-refusal-spec =
@@ -108,6 +119,8 @@ growth-refusal-spec =
     bin-count-requires
     returns-3
     returns-4
+    overfull-refusal-requires
     returns-5
     returns-6
+    overfull-refusal-requires-2
     returns-7)

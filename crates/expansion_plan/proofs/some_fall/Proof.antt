@@ -11,7 +11,7 @@ use Rattle.expansion_plan.proofs.Falls.{falls-lent}
 use Rattle.expansion_plan.proofs.some_fall.Statement.{statement}
 use Rattle.expansion_plan.proofs.some_fall.Tie as tie
 
--- the growth is accepted, by the sound table with these tops
+-- the growth is accepted, by the formed table with these tops
 asked
     : (s : tie.Start)
     → let rest = s .pre .whole in
@@ -43,9 +43,9 @@ due-below-requires c κs =
 
 returns : tie.Need-returns
 unfolding table growthTests shrinks unchanged blocksFull bins
-returns c ends blocks adjustments sound =
+returns c ends blocks adjustments formed =
     let start = c .before .before .before .before in
-    falls-lent (start .args .h) _ _ sound (start .pre .asked) _ _
+    falls-lent (start .args .h) _ _ formed (start .pre .asked) _ _
     (c .before .before .bin-count .ensures ends blocks adjustments)
     (c .before .due-below .ensures)
 

@@ -6,7 +6,7 @@ use borrow.Author.Needs.{needs}
 use Rattle.model.specs.Table.{Shape, Table, table, sizes}
 use Rattle.model.specs.Expansion.{expanded}
 use Rattle.model.proofs.Rooms.{roomy}
-use Rattle.model.proofs.Wells.{sound-well}
+use Rattle.model.proofs.Wells.{formed-well}
 use Rattle.model.proofs.Growths.{accepted, block-limits}
 use Rattle.model.specs.Lent.{lent}
 use Rattle.expansion_drain.specs.Stored.{Room}
@@ -38,12 +38,12 @@ write-tops-requires : tie.Need-write-tops-requires
 write-tops-requires c κs =
     let start = c .before .before .before .before .before .before .before .before .before in
     let (grows, (room-lent, _)) = start .pre in (
-      grows .sound .topsLong,
-      grows .sound .blockLimit,
+      grows .formed .topsLong,
+      grows .formed .blockLimit,
       omega (
         arith,
         grows .counted,
-        block-limits (t start) (z start) (sound-well _ _ (grows .sound)) (accepted (t start) (z start) (grows .asked)),
+        block-limits (t start) (z start) (formed-well _ _ (grows .formed)) (accepted (t start) (z start) (grows .asked)),
       ),
       roomy _ room-lent .tops,
     )

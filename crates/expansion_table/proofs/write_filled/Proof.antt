@@ -41,7 +41,7 @@ room
     (s .args .new-ends .now) (s .args .new-blocks .now) (s .args .new-adjustments .now)
 room s =
     let given = s .pre .holds in
-    rw (reaches s, given .counted) (rw (filled-length _ _ (s .pre .other) (given .fills .sound)) at (given .room))
+    rw (reaches s, given .counted) (rw (filled-length _ _ (s .pre .other) (given .fills .formed)) at (given .room))
 
 -- the old intervals but the last have room
 olds-room
@@ -92,13 +92,13 @@ add-end c =
 copy-intervals-requires : tie.Need-copy-intervals-requires
 copy-intervals-requires c κs =
     let start = c .before .before .before .before .before .before .before .before .before .before .before .before .before .before in
-    let sound = start .pre .holds .fills .sound in (
-      omega (arith, sound .intervalLimit),
+    let formed = start .pre .holds .fills .formed in (
+      omega (arith, formed .intervalLimit),
       (
         record {
-          ends = omega (arith, sound .endsLong);
-          blocks = omega (arith, sound .blocksLong);
-          adjustments = omega (arith, sound .adjustmentsLong);
+          ends = omega (arith, formed .endsLong);
+          blocks = omega (arith, formed .blocksLong);
+          adjustments = omega (arith, formed .adjustmentsLong);
         },
         olds-room start,
       ),
@@ -115,7 +115,7 @@ write-interval-requires c κs =
     let copied = c .before .before .before .before .before .before .before .before .before .before in
     let start = copied .before .before .before .before .before .before .before .before .before .before .before .before .before .before .before in
     let fills = start .pre .holds .fills in
-    let some = fills .sound .someIntervals in
+    let some = fills .formed .someIntervals in
     room-less (omega arith)
     (stored-room (old-stored _ _ _ _ _ fills (olds-room start) (copied .copy-intervals .ensures)) (room start))
 

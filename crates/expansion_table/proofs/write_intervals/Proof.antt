@@ -22,7 +22,7 @@ write-drained-requires c κs =
       other = given .other;
       holds = record {
         drains = grows-drains grows;
-        room = rw (drained-count _ _ _ (grows .sound) (grows .asked) falls) at (given .holds .room);
+        room = rw (drained-count _ _ _ (grows .formed) (grows .asked) falls) at (given .holds .room);
       };
     }
 
@@ -39,11 +39,11 @@ returns : tie.Need-returns
 returns c tops bins g =
     let falls = sym (g .falling) ∙ c .before .before .before .before .before .before .before .before .before .before .if1 .taken in
     let (counted, stored) = c .before .before .before .before .before .before .write-drained .ensures tops bins (grows-drains g) in
-    let moves = counted .moved ∙ drained-moves _ _ _ (g .sound) (g .asked) falls in (
+    let moves = counted .moved ∙ drained-moves _ _ _ (g .formed) (g .asked) falls in (
       record {
-        intervals = counted .intervals ∙ sym (drained-count _ _ _ (g .sound) (g .asked) falls);
+        intervals = counted .intervals ∙ sym (drained-count _ _ _ (g .formed) (g .asked) falls);
         moved = moves;
-        least = moves ∙ moved-is-least _ _ _ (g .sound) (g .asked) .0;
+        least = moves ∙ moved-is-least _ _ _ (g .formed) (g .asked) .0;
       },
       rw (expanded-drained _ (sizes _ bins) falls) stored,
     )
@@ -74,10 +74,10 @@ cast-t27 c =
     omega (
       arith,
       written .write-filled .ensures _ s fills (g .counted) .0,
-      filled-most _ _ s (g .sound),
+      filled-most _ _ s (g .formed),
       g .counted,
       blocks-few _ _ _ _ _ fills _ (g .counted),
-      g .sound .intervalLimit,
+      g .formed .intervalLimit,
     )
 
 same-length-4 : tie.Need-same-length-4
@@ -95,11 +95,11 @@ returns-2 c tops bins g =
     let fills = grows-fills g (written .before .before .before .before .if1 .left) in
     let (place, stored) = written .write-filled .ensures tops _ fills (g .counted) in
     let same = expanded-filled _ (sizes _ bins) (fills .none) in
-    let moves = filled-moves _ _ _ (g .sound) (g .asked) (fills .none) in (
+    let moves = filled-moves _ _ _ (g .formed) (g .asked) (fills .none) in (
       record {
         intervals = place ∙ ap (λ (u : Table). length (u .intervals)) (sym same);
         moved = moves;
-        least = moves ∙ moved-is-least _ _ _ (g .sound) (g .asked) .0;
+        least = moves ∙ moved-is-least _ _ _ (g .formed) (g .asked) .0;
       },
       rw same stored,
     )

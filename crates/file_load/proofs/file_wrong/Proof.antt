@@ -13,7 +13,7 @@ use Rattle.file_load.proofs.file_wrong.Statement.{statement}
 use Rattle.file_load.proofs.file_wrong.Tie as tie
 
 returns : tie.Need-returns
-returns c = sym (file-short _ (c .if1 .taken))
+returns c = sym (file-short _ _ (c .if1 .taken))
 
 header-of-requires : tie.Need-header-of-requires
 header-of-requires c κs = search needs

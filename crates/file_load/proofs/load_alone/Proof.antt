@@ -1,12 +1,12 @@
 -- `file_load::load_alone` meets its contract: the decoded arrays are the file's, and an adjustment of 0 completes them. Assumes nothing.
-use mathlib.Core.Path.{_≡_}
+use mathlib.Core.Path.{_≡_, ap}
 use mathlib.Core.List.{[]}
 use native.Mathlib.Omega.{arith}
-use Rattle.model.specs.Table.{arrays}
+use Rattle.model.specs.Table.{Arrays, arrays}
 use Rattle.model.proofs.Tables.{length-from}
 use Rattle.soundness.specs.Passed.{alone}
 use Rattle.file_rules.specs.Judging.{fileArrays}
-use Rattle.file_load.proofs.Passed.{filled, alone-completed, loaded-refused, loaded-accepted}
+use Rattle.file_load.proofs.Passed.{filled, alone-completed, loaded-refused, completed-judged}
 use borrow.Author.Needs.{needs}
 use Rattle.file_load.proofs.load_alone.Statement.{statement}
 use Rattle.file_load.proofs.load_alone.Tie as tie
@@ -22,7 +22,7 @@ entry c = c .before .before .before .before .before .before .before .before .bef
 same
     : (c : tie.After-decode)
     → let own = c .decode .last .1 .1 in
-    arrays (own .0) (own .1 .0) (own .1 .1 .0) [] ≡ fileArrays (entry c .args .f .now) (alone (entry c .args .buckets))
+    arrays (own .0) (own .1 .0) (own .1 .1 .0) [] ≡ fileArrays (entry c .args .f .now) (alone (entry c .args .buckets) (entry c .args .capacity))
 same c =
     let d = c .decode .ensures in
     λ i.
@@ -63,13 +63,21 @@ returns : tie.Need-returns
 returns c =
     let k = decoding (c .before) in
     loaded-refused _ _ _ (entry k .pre) _ _ _
-    (alone-completed _ _ _ _ _ _ _ (same k) (omega arith) (c .before .judged-alone .ensures)) _ (c .if1 .taken)
+    (alone-completed _ _ _ _ _ _ _ _ (same k) (omega arith) (c .before .judged-alone .ensures)) _ (c .if1 .taken)
 
-slice-aggregate-write-out : tie.Need-slice-aggregate-write-out
-slice-aggregate-write-out c = search needs
+slice-aggregate-load-judged : tie.Need-slice-aggregate-load-judged
+slice-aggregate-load-judged c = search needs
 
-write-out-requires : tie.Need-write-out-requires
-write-out-requires c κs = search needs
+slice-aggregate-load-judged-2 : tie.Need-slice-aggregate-load-judged-2
+slice-aggregate-load-judged-2 c = search needs
+
+load-judged-requires : tie.Need-load-judged-requires
+load-judged-requires c κs =
+    let passed = c .before .before .before .before .before .before in
+    let k = decoding (passed .before) in
+    completed-judged _ _ _ (entry k .pre) _ _ _
+    (alone-completed _ _ _ _ _ _ _ _ (same k) (omega arith) (passed .before .judged-alone .ensures)) (passed .if1 .left) _
+    (ap (λ (a : Arrays). a .tops) (same k)) (omega arith)
 
 same-length : tie.Need-same-length
 same-length c = search needs
@@ -84,13 +92,7 @@ same-length-4 : tie.Need-same-length-4
 same-length-4 c = search needs
 
 returns-2 : tie.Need-returns-2
-returns-2 c =
-    let written = c .before .before .before .before .before .before .before .before in
-    let passed = written .before .before .before .before .before .before in
-    let k = decoding (passed .before) in
-    loaded-accepted _ _ _ (entry k .pre) _ _ _
-    (alone-completed _ _ _ _ _ _ _ (same k) (omega arith) (passed .before .judged-alone .ensures)) _ (passed .if1 .left) _
-    (written .write-out .ensures)
+returns-2 c = search needs
 
 pub load-alone-spec : {M : Type 1} → statement M
 load-alone-spec =
@@ -106,8 +108,9 @@ load-alone-spec =
     slice-aggregate-judged-alone-4
     judged-alone-requires
     returns
-    slice-aggregate-write-out
-    write-out-requires
+    slice-aggregate-load-judged
+    slice-aggregate-load-judged-2
+    load-judged-requires
     same-length
     same-length-2
     same-length-3

@@ -1,9 +1,9 @@
--- `file_load::load_by` meets its contract: rules 12 to 15, then the table is written. Assumes nothing.
+-- `file_load::load_by` meets its contract: rules 12 to 15, then the judged file is loaded. Assumes nothing.
 use mathlib.Core.Path.{_≡_, sym, _∙_, ap}
 use lib.ListN.{length, take}
 use Rattle.model.proofs.Tables.{length-from, taken}
 use Rattle.file_rules.specs.Judging.{fileArrays}
-use Rattle.file_load.proofs.Passed.{loaded-refused, loaded-accepted}
+use Rattle.file_load.proofs.Passed.{loaded-refused, completed-judged}
 use borrow.Author.Needs.{needs}
 use Rattle.file_load.proofs.load_by.Statement.{statement}
 use Rattle.file_load.proofs.load_by.Tie as tie
@@ -48,8 +48,22 @@ returns c =
     let ruled = c .before .before .before in
     loaded-refused _ _ _ (begun ruled .pre .0) _ _ _ (ruled .complete .ensures) _ (c .if1 .taken)
 
-write-out-requires : tie.Need-write-out-requires
-write-out-requires c κs = search needs
+array-share-prefix-own-tops-2 : tie.Need-array-share-prefix-own-tops-2
+array-share-prefix-own-tops-2 c = search needs
+
+-- the rules, from after the tops are shared again
+abbrev passed : tie.After-own-tops4 → tie.After-complete
+passed c = c .before .before .before .before
+
+slice-aggregate-load-judged : tie.Need-slice-aggregate-load-judged
+slice-aggregate-load-judged c = sym (ap length (read (passed c .before .before .before .before)) ∙ length-from _ _ _)
+
+load-judged-requires : tie.Need-load-judged-requires
+load-judged-requires c κs =
+    let shared = c .before .before .before .before .before in
+    let ruled = passed shared in
+    completed-judged _ _ _ (begun ruled .pre .0) _ _ _ (ruled .complete .ensures) (shared .before .if1 .left) _
+    (read (ruled .before .before .before .before)) (begun ruled .pre .1)
 
 same-length-2 : tie.Need-same-length-2
 same-length-2 c = search needs
@@ -67,11 +81,7 @@ same-length-6 : tie.Need-same-length-6
 same-length-6 c = search needs
 
 returns-2 : tie.Need-returns-2
-returns-2 c =
-    let written = c .before .before .before .before .before .before .before .before in
-    let passed = written .before .before .before .before .before .before in
-    let ruled = passed .before .before .before in
-    loaded-accepted _ _ _ (begun ruled .pre .0) _ _ _ (ruled .complete .ensures) _ (passed .if1 .left) _ (written .write-out .ensures)
+returns-2 c = search needs
 
 pub load-by-spec : {M : Type 1} → statement M
 load-by-spec =
@@ -85,7 +95,9 @@ load-by-spec =
     complete-requires
     same-length
     returns
-    write-out-requires
+    array-share-prefix-own-tops-2
+    slice-aggregate-load-judged
+    load-judged-requires
     same-length-2
     same-length-3
     same-length-4

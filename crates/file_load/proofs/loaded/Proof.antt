@@ -14,13 +14,13 @@ file-wrong-requires : tie.Need-file-wrong-requires
 file-wrong-requires c κs = search needs
 
 returns : tie.Need-returns
-returns c = file-refused _ _ (sym (c .before .file-wrong .ensures) ∙ c .if1 .taken)
+returns c = file-refused _ _ _ (sym (c .before .file-wrong .ensures) ∙ c .if1 .taken)
 
 -- the file passes 11
 abbrev start : tie.Else1 → tie.Start
 start c = c .before .before .before .before .before .before .before
 
-passes : (c : tie.Else1) → fileWrong (start c .args .f .now) ≡ false
+passes : (c : tie.Else1) → fileWrong (start c .args .f .now) (start c .args .capacity) ≡ false
 passes c = sym (c .before .file-wrong .ensures) ∙ c .if1 .left
 
 ready
@@ -31,10 +31,10 @@ ready
     (start (c .before) .args .ends .now)
     (start (c .before) .args .blocks .now)
     (start (c .before) .args .adjustments .now))
-ready c = opened _ _ _ (c .header-of .ensures) (passes (c .before)) (start (c .before) .pre)
+ready c = opened _ _ _ _ (c .header-of .ensures) (passes (c .before)) (start (c .before) .pre)
 
 header-of-requires : tie.Need-header-of-requires
-header-of-requires c κs = let k = counted _ _ refl (passes c) in omega arith
+header-of-requires c κs = let k = counted _ _ _ refl (passes c) in omega arith
 
 load-alone-requires : tie.Need-load-alone-requires
 load-alone-requires c κs =
@@ -60,7 +60,7 @@ returns-2 : tie.Need-returns-2
 returns-2 c =
     let called = c .before .before .before .before .before .before .before .before .before in
     let opening = called .before .before .before .before .before .before .before .before .before in
-    loaded-replied _ _ _ _ _ _ (opening .header-of .ensures) (called .load-alone .ensures) (c .reply .ensures)
+    loaded-replied _ _ _ _ _ _ _ (opening .header-of .ensures) (called .load-alone .ensures) (c .reply .ensures)
 
 load-sized-requires : tie.Need-load-sized-requires
 load-sized-requires c κs = ready (c .before .before .before .before .before .before)
@@ -84,7 +84,7 @@ returns-3 : tie.Need-returns-3
 returns-3 c =
     let called = c .before .before .before .before .before .before .before .before .before in
     let opening = called .before .before .before .before .before .before .before in
-    loaded-replied _ _ _ _ _ _ (opening .header-of .ensures) (called .load-sized .ensures) (c .reply2 .ensures)
+    loaded-replied _ _ _ _ _ _ _ (opening .header-of .ensures) (called .load-sized .ensures) (c .reply2 .ensures)
 
 pub loaded-spec : {M : Type 1} → statement M
 loaded-spec =

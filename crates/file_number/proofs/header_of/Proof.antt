@@ -19,6 +19,7 @@ returns c =
     λ i.
     record {
       buckets = c .before .before .number-at .ensures i;
+      capacity = c .before .before .before .before .args .capacity;
       «block_count» = c .before .number-at2 .ensures i;
       «interval_count» = c .number-at3 .ensures i;
     }

@@ -5,10 +5,10 @@ use Rattle.histories.proofs.refusals.Statement.{statement}
 use Rattle.histories.proofs.refusals.Tie as tie
 
 abbrev Inv-loop : tie.InvT-loop
-Inv-loop s i₀ i = i ≤ 10
+Inv-loop s i₀ i = i ≤ 32
 
 abbrev μ-loop : tie.MeasureT-loop
-μ-loop s i₀ i = 10 - i
+μ-loop s i₀ i = 32 - i
 
 loop-holds : tie.Need-loop-holds Inv-loop μ-loop
 loop-holds c = search needs

@@ -27,7 +27,7 @@ same-length-4 c = search needs
 returns : tie.Need-returns
 returns c =
     let short = sym (c .before .before .room-short .ensures) ∙ c .before .if1 .taken in
-    let answer = load-refused _ _ _ (load-short _ _ short) (λ z. omega arith) in
+    let answer = load-refused _ _ _ _ (load-short _ _ _ short) (λ z. omega arith) in
     (c .refused-load .ensures ∙ answer .0, answer .1)
 
 loaded-requires : tie.Need-loaded-requires
@@ -48,7 +48,7 @@ same-length-8 c = search needs
 returns-2 : tie.Need-returns-2
 returns-2 c =
     let done = c .before .before .before .before .before .before .before .before in
-    let answer = load-later _ _ (sym (done .before .before .before .before .before .before .room-short .ensures) ∙ done .before .before .before
+    let answer = load-later _ _ _ (sym (done .before .before .before .before .before .before .room-short .ensures) ∙ done .before .before .before
     .before .before .if1 .left) in
     (done .loaded .ensures .0 ∙ answer .0, done .loaded .ensures .1 ∙ answer .1)
 

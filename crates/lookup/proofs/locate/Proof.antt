@@ -18,7 +18,7 @@ abbrev μ-loop : tie.MeasureT-loop
 μ-loop ends adjustments bucket low₀ count₀ low count = count
 
 returns : tie.Need-returns Inv-loop μ-loop
-returns c tops blocks sound = sym (located-outside _ _ _ (c .if1 .taken))
+returns c tops blocks formed = sym (located-outside _ _ _ (c .if1 .taken))
 
 cast-narrow : tie.Need-cast-narrow Inv-loop μ-loop
 cast-narrow c = omega arith
@@ -82,11 +82,11 @@ sub-t17 c =
     omega (arith, start .pre .below (turn .loop .low) (omega arith))
 
 returns-2 : tie.Need-returns-2 Inv-loop μ-loop
-returns-2 c tops blocks sound =
+returns-2 c tops blocks formed =
     let turn = c .before .before in
     let start = turn .before .before .before .before .before .before .before in
     sym
-    (located-at (start .args .h) _ sound (turn .loop .low) (start .args .bucket) (omega arith) (turn .loop .inv .from) (inside c)
+    (located-at (start .args .h) _ formed (turn .loop .low) (start .args .bucket) (omega arith) (turn .loop .inv .from) (inside c)
     (omega arith))
 
 pub locate-spec : {M : Type 1} → statement M

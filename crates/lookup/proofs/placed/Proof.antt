@@ -2,13 +2,13 @@
 use mathlib.Core.Path.{sym, _∙_}
 use native.Mathlib.Omega.{arith}
 use Rattle.model.specs.Table.{firstBin, Arrays, arrays}
-use Rattle.lookup.proofs.Searches.{sound-locatable, Reached, reached, place-at, place-past}
+use Rattle.lookup.proofs.Searches.{formed-locatable, Reached, reached, place-at, place-past}
 use borrow.Author.Needs.{needs}
 use Rattle.lookup.proofs.placed.Statement.{statement}
 use Rattle.lookup.proofs.placed.Tie as tie
 
 locate-requires : tie.Need-locate-requires
-locate-requires c κs = sound-locatable _ _ (c .before .before .before .before .pre)
+locate-requires c κs = formed-locatable _ _ (c .before .before .before .before .pre)
 
 enum-known-interval : tie.Need-enum-known-interval
 enum-known-interval c = search needs

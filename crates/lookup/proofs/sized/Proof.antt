@@ -1,4 +1,4 @@
--- `lookup::sized` meets its contract: a bin of a sound table has its due size. Assumes nothing.
+-- `lookup::sized` meets its contract: a bin of a formed table has its due size. Assumes nothing.
 use Prim.Native.Nat.{_≤_}
 use native.Mathlib.Nat.{div-le-self}
 use native.Mathlib.Omega.{arith}
@@ -12,10 +12,10 @@ bin-count-requires c κs = search needs
 
 -- there is a bin
 some : (c : tie.After-bin-count) → 1 ≤ c .bin-count .result
-some c = bins-some (c .before .before .args .h) _ (c .before .before .pre .sound) _ (c .bin-count .ensures _ _ _)
+some c = bins-some (c .before .before .args .h) _ (c .before .before .pre .formed) _ (c .bin-count .ensures _ _ _)
 
 returns : tie.Need-returns
-returns c ends blocks adjustments sound =
+returns c ends blocks adjustments formed =
     size-past _ _ _ _ (c .before .bin-count .ensures ends blocks adjustments) (omega arith)
 
 div-share : tie.Need-div-share
@@ -28,15 +28,15 @@ add-t8 : tie.Need-add-t8
 add-t8 c =
     let n = c .before .before .before .before in
     let start = n .before .before in
-    omega (arith, start .pre .sound .bucketLimit, div-le-self (start .args .h .buckets) (n .bin-count .result))
+    omega (arith, start .pre .formed .bucketLimit, div-le-self (start .args .h .buckets) (n .bin-count .result))
 
 returns-2 : tie.Need-returns-2
-returns-2 c ends blocks adjustments sound =
-    size-more _ _ sound _ _ (c .before .before .before .before .bin-count .ensures _ _ _) (omega arith) (c .if2 .taken)
+returns-2 c ends blocks adjustments formed =
+    size-more _ _ formed _ _ (c .before .before .before .before .bin-count .ensures _ _ _) (omega arith) (c .if2 .taken)
 
 returns-3 : tie.Need-returns-3
-returns-3 c ends blocks adjustments sound =
-    size-less _ _ sound _ _ (c .before .before .before .before .bin-count .ensures _ _ _) (omega arith) (c .if2 .left)
+returns-3 c ends blocks adjustments formed =
+    size-less _ _ formed _ _ (c .before .before .before .before .bin-count .ensures _ _ _) (omega arith) (c .if2 .left)
 
 pub sized-spec : {M : Type 1} → statement M
 sized-spec =

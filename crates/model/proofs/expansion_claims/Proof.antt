@@ -1,5 +1,5 @@
 -- `model::expansion_claims` meets its contract: a proof of each claim. Assumes nothing.
-use Rattle.model.proofs.Expanded.{expand-stays, expand-read}
+use Rattle.model.proofs.Expanded.{expand-stays, expand-read, capacity-kept, refused-alike}
 use Rattle.model.proofs.Totals.{left-lends}
 use Rattle.model.proofs.Kept.{expand-is-sound, places-kept, moved-is-least, moved-replies, total-is-least, total-decided, left-sound}
 use Rattle.model.proofs.expansion_claims.Statement.{statement}
@@ -10,6 +10,8 @@ returns c =
     record {
       expandSound = expand-is-sound;
       expandRead = expand-read;
+      capacityKept = capacity-kept;
+      refusedAlike = refused-alike;
       expandStays = expand-stays;
       expandPlaces = places-kept;
       movedLeast = moved-is-least;

@@ -1,5 +1,6 @@
 -- `model::table_claims` meets its contract: a proof of each claim. Assumes nothing.
-use Rattle.model.proofs.Soundness.{sound-iff, same-sound, initial-sound, written-read, initial-read}
+use Rattle.model.proofs.Soundness.{sound-iff, capacity-last, same-sound, initial-sound, written-read, initial-read}
+use Rattle.model.proofs.Capacities.{overfills-where, held-within}
 use Rattle.model.proofs.Places.{size-due, table-balanced}
 use Rattle.model.proofs.Finds.{find-placed, place-found, find-refused}
 use Rattle.model.proofs.Searches.{place-refused}
@@ -12,6 +13,8 @@ returns : tie.Need-returns
 returns c =
     record {
       soundIff = sound-iff;
+      capacityLast = capacity-last;
+      overfillsWhere = overfills-where;
       sameSound = same-sound;
       initialSound = initial-sound;
       loadSound = load-sound;
@@ -20,6 +23,7 @@ returns c =
       loadRead = load-read;
       sizeDue = size-due;
       tableBalanced = table-balanced;
+      noneOverfull = held-within;
       findPlaced = find-placed;
       placeFound = place-found;
       placeRefused = place-refused;

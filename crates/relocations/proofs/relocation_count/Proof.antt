@@ -12,7 +12,7 @@ use borrow.Author.Needs.{needs}
 use Rattle.relocations.proofs.relocation_count.Statement.{statement}
 use Rattle.relocations.proofs.relocation_count.Tie as tie
 
--- the growth is accepted, by the sound table with these tops
+-- the growth is accepted, by the formed table with these tops
 asked
     : (s : tie.Start)
     → let rest = s .pre .whole in
@@ -47,9 +47,9 @@ excess-requires c κs = search needs
 
 returns : tie.Need-returns
 unfolding table growthTests shrinks unchanged blocksFull bins
-returns c ends blocks adjustments sound =
+returns c ends blocks adjustments formed =
     let start = c .before .before .before .before in
-    rows-counted (start .args .h) _ _ sound (start .pre .asked) _ _ _
+    rows-counted (start .args .h) _ _ formed (start .pre .asked) _ _ _
     (c .before .before .bin-count .ensures ends blocks adjustments)
     (c .before .due-below .ensures)
     (c .excess .ensures)

@@ -32,9 +32,9 @@ moves
     (c .before .before .dues-after .last .1 .1 .1 .1 .0)
 moves c =
     let start = c .before .before .before .before .before .before .before .before .before .before in
-    let (sound, (asked, all)) = start .pre in
+    let (formed, (asked, all)) = start .pre in
     let other = c .before .before .before .before .if1 .left in
-    let falls = rows-falls (start .args .h) _ _ sound asked (start .args .first) (omega arith) in
+    let falls = rows-falls (start .args .h) _ _ formed asked (start .args .first) (omega arith) in
     record { asked = asked; falls = falls; after = c .before .before .dues-after .ensures _ _ _ }
 
 write-moved-requires : tie.Need-write-moved-requires

@@ -30,7 +30,7 @@ same-length-4 : tie.Need-same-length-4
 same-length-4 c = search needs
 
 returns : tie.Need-returns
-returns c = initial-written _ _ (roomy _ (c .pre))
+returns c capacity = initial-written _ capacity _ (roomy _ (c .pre))
 
 pub write-initial-spec : {M : Type 1} → statement M
 write-initial-spec =

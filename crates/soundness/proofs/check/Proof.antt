@@ -1,19 +1,19 @@
 -- `soundness::check` meets its contract: each return from the tests on the way to it, and each rule's function is called with
 -- what the rules before it have shown. Assumes nothing.
-use Prim.Native.Nat.{_≤_}
-use mathlib.Core.Path.{_≡_, sym, _∙_, ap, subst}
+use mathlib.Core.Path.{_≡_, sym, _∙_}
 use mathlib.Core.Bool.{false}
-use lib.ListN.{length}
+use mathlib.Core.List.{[], _∷_, _++_}
 use borrow.Author.Needs.{needs}
 use Rattle.model.specs.Basics.{_or_}
 use Rattle.model.specs.Table.{Arrays, arrays}
-use Rattle.model.specs.Refusal.{headerOutside, arraysShort, first}
+use Rattle.model.specs.Refusal.{headerOutside, arraysShort, capacityWrong, first}
+use Rattle.model.specs.Sound.{Formed}
 use Rattle.model.specs.Calls.{tableTests}
 use Rattle.model.specs.declared.table.Header.{Header}
-use Rattle.model.proofs.Refusals.{or-both, first-here, first-skip}
+use Rattle.model.proofs.Refusals.{or-both, first-here, first-skip, first-none, first-found, first-after}
 use Rattle.model.proofs.Rules.{or-first, or-last, adjustments-long}
-use Rattle.soundness.specs.Passed.{Counted, layoutTests, ruleTests, alone}
-use Rattle.soundness.proofs.Passed.{lent-counted}
+use Rattle.soundness.specs.Passed.{Counted, layoutTests, ruleTests}
+use Rattle.soundness.proofs.Passed.{lent-counted, rules-numbered, rules-formed}
 use Rattle.soundness.proofs.check.Statement.{statement}
 use Rattle.soundness.proofs.check.Tie as tie
 
@@ -62,40 +62,48 @@ returns-2 c =
     (or-last _ _ (header-pass (c .before .before)) ∙ sym (c .before .arrays-short .ensures) ∙ c .if2 .taken))
 
 -- rule 11 is passed: the others answer
-later : (c : tie.Else2) → first (tableTests (h (at2 c)) (a (at2 c))) ≡ first (ruleTests (h (at2 c)) (a (at2 c)))
+later
+    : (c : tie.Else2)
+    → first (tableTests (h (at2 c)) (a (at2 c)))
+    ≡ first (ruleTests (h (at2 c)) (a (at2 c)) ++ ((30, capacityWrong (h (at2 c)) (a (at2 c))) ∷ []))
 unfolding tableTests ruleTests layoutTests
 later c = first-skip _ _ (sizes-pass c)
 
--- a table of one block and one interval
-abbrev lone : tie.Then4 → tie.Else2
-lone c = c .before .before .before .before
-
-alone-header : (c : tie.Then4) → alone (h (at2 (lone c)) .buckets) ≡ h (at2 (lone c))
-alone-header c i =
-    record {
-      buckets = h (at2 (lone c)) .buckets;
-      «block_count» = sym (c .before .before .if3 .taken) i;
-      «interval_count» = sym (c .if4 .taken) i;
-    }
-
-judged-alone-requires : tie.Need-judged-alone-requires
-judged-alone-requires c κs =
-    let e = sym (alone-header c) in
-    let l = a (at2 (lone c)) in (
-      subst (λ g. Counted g (l .tops) (l .ends) (l .blocks)) e (counted (lone c)),
-      subst (λ (g : Header). g .«interval_count» ≤ length (l .adjustments)) e (adjustments-long _ _ (short-pass (lone c))),
-    )
+rule-refusal-requires : tie.Need-rule-refusal-requires
+rule-refusal-requires c κs = (counted c, adjustments-long _ _ (short-pass c))
 
 returns-3 : tie.Need-returns-3
 returns-3 c =
-    let k = lone (c .before) in
-    c .judged-alone .ensures ∙ ap (λ g. first (ruleTests g (a (at2 k)))) (alone-header (c .before)) ∙ sym (later k)
+    let judged = c .before .rule-refusal .ensures in
+    judged ∙ sym (later (c .before .before) ∙ first-found _ _ (λ e. c .if3 .taken (judged ∙ e)))
 
-judged-requires : tie.Need-judged-requires
-judged-requires c κs = let k = c .before .before in (counted k, adjustments-long _ _ (short-pass k))
+-- rules 12 to 16 are passed too: 30 answers
+abbrev at3 : tie.Else3 → tie.Else2
+at3 c = c .before .before
+
+clear : (c : tie.Else3) → first (ruleTests (h (at2 (at3 c))) (a (at2 (at3 c)))) ≡ 0
+clear c = sym (c .before .rule-refusal .ensures) ∙ c .if3 .left
+
+formed : (c : tie.Else3) → Formed (h (at2 (at3 c))) (a (at2 (at3 c)))
+formed c = rules-formed _ _ (header-pass (at3 c .before .before)) (short-pass (at3 c)) (clear c)
+
+last
+    : (c : tie.Else3)
+    → first (tableTests (h (at2 (at3 c))) (a (at2 (at3 c)))) ≡ first ((30, capacityWrong (h (at2 (at3 c))) (a (at2 (at3 c)))) ∷ [])
+last c = later (at3 c) ∙ first-after _ _ (rules-numbered _ _) (clear c)
+
+capacity-wrong-requires : tie.Need-capacity-wrong-requires
+capacity-wrong-requires c κs = record { ends = _; blocks = _; adjustments = _; formed = formed c }
 
 returns-4 : tie.Need-returns-4
-returns-4 c = c .judged .ensures ∙ sym (later (c .before .before .before))
+returns-4 c =
+    let passed = c .before .before in
+    sym (last passed ∙ first-here _ _ (sym (c .before .capacity-wrong .ensures _ _ _ (formed passed)) ∙ c .if4 .taken))
+
+returns-5 : tie.Need-returns-5
+returns-5 c =
+    let passed = c .before .before in
+    sym (last passed ∙ first-skip _ _ (sym (c .before .capacity-wrong .ensures _ _ _ (formed passed)) ∙ c .if4 .left) ∙ first-none)
 
 pub check-spec : {M : Type 1} → statement M
 check-spec =
@@ -105,7 +113,8 @@ check-spec =
     returns
     arrays-short-requires
     returns-2
-    judged-alone-requires
+    rule-refusal-requires
     returns-3
-    judged-requires
-    returns-4)
+    capacity-wrong-requires
+    returns-4
+    returns-5)

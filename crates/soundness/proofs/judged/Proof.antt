@@ -5,7 +5,7 @@ use borrow.Author.Needs.{needs}
 use Rattle.model.specs.Refusal.{first}
 use Rattle.soundness.specs.Passed.{layoutTests, TopsRight, IntervalsRight}
 use Rattle.soundness.proofs.Passed.{laid, tops-right, intervals-right}
-use Rattle.soundness.proofs.Answers.{judged-layout, judged-adjustments, judged-holdings, judged-sound}
+use Rattle.soundness.proofs.Answers.{judged-layout, judged-adjustments, judged-holdings, judged-formed}
 use Rattle.soundness.proofs.judged.Statement.{statement}
 use Rattle.soundness.proofs.judged.Tie as tie
 
@@ -63,7 +63,7 @@ returns-4 : tie.Need-returns-4
 returns-4 c =
     let k = c .before in
     let w = walk k .walked .ensures in
-    judged-sound _ _ _ _ _ (clear (passed (walk k))) _ (w .answer) _
+    judged-formed _ _ _ _ _ (clear (passed (walk k))) _ (w .answer) _
     (k .holdings-wrong .ensures _ _ (w .holds (k .before .before .if2 .left))) (k .before .before .if2 .left) (c .if3 .left)
 
 pub judged-spec : {M : Type 1} → statement M

@@ -7,7 +7,7 @@ use Rattle.model.specs.Refusal.{first}
 use Rattle.soundness.specs.Passed.{layoutTests, alone, TopsRight, IntervalsRight}
 use Rattle.soundness.proofs.Passed.{laid, tops-right, intervals-right}
 use Rattle.soundness.proofs.Walk.{walked-none}
-use Rattle.soundness.proofs.Answers.{judged-layout, judged-adjustments, judged-holdings, judged-sound}
+use Rattle.soundness.proofs.Answers.{judged-layout, judged-adjustments, judged-holdings, judged-formed}
 use Rattle.soundness.proofs.judged_alone.Statement.{statement}
 use Rattle.soundness.proofs.judged_alone.Tie as tie
 
@@ -23,13 +23,13 @@ entry c = c .before .before .before .before .before .before
 
 clear
     : (c : tie.Else1)
-    → first (layoutTests (alone (entry c .args .buckets)) (entry c .args .tops .now) (entry c .args .ends .now) (entry c .args .blocks .now)) ≡ 0
+    → first (layoutTests (alone (entry c .args .buckets) (entry c .args .capacity)) (entry c .args .tops .now) (entry c .args .ends .now) (entry c .args .blocks .now)) ≡ 0
 clear c = sym (c .before .layout-refusal .ensures) ∙ c .if1 .left
 
-tops-done : (c : tie.Else1) → TopsRight (alone (entry c .args .buckets)) (entry c .args .tops .now)
+tops-done : (c : tie.Else1) → TopsRight (alone (entry c .args .buckets) (entry c .args .capacity)) (entry c .args .tops .now)
 tops-done c = tops-right _ _ _ _ (entry c .pre .0) (laid _ _ _ _ (clear c))
 
-intervals-done : (c : tie.Else1) → IntervalsRight (alone (entry c .args .buckets)) (entry c .args .ends .now) (entry c .args .blocks .now)
+intervals-done : (c : tie.Else1) → IntervalsRight (alone (entry c .args .buckets) (entry c .args .capacity)) (entry c .args .ends .now) (entry c .args .blocks .now)
 intervals-done c = intervals-right _ _ _ _ (entry c .pre .0) (laid _ _ _ _ (clear c))
 
 -- the walk has been made
@@ -65,7 +65,7 @@ returns-4 : tie.Need-returns-4
 returns-4 c =
     let k = c .before in
     let w = walk k .walked-from .ensures in
-    judged-sound _ _ _ _ _ (clear (passed (walk k))) _ (w .answer) _
+    judged-formed _ _ _ _ _ (clear (passed (walk k))) _ (w .answer) _
     (k .holdings-wrong .ensures _ _ (w .holds (k .before .before .if2 .left))) (k .before .before .if2 .left) (c .if3 .left)
 
 pub judged-alone-spec : {M : Type 1} → statement M

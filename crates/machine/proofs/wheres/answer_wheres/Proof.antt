@@ -2,7 +2,7 @@
 use mathlib.Core.Path.{refl, sym, _∙_}
 use Rattle.console.proofs.Serving.{first-held, second-held}
 use Rattle.machine.proofs.Turning.{went-none}
-use Rattle.machine.proofs.Placing.{map-sound, map-shows}
+use Rattle.machine.proofs.Placing.{map-formed, map-shows}
 use borrow.Author.Needs.{needs}
 use Rattle.machine.proofs.wheres.answer_wheres.Statement.{statement}
 use Rattle.machine.proofs.wheres.answer_wheres.Tie as tie
@@ -27,7 +27,7 @@ answer-places-requires c κs =
     let map = c .before .before .before in
     let some = sym (map .before .is-empty .ensures) ∙ map .if3 .left in
     let pre = map .before .before .before .before .before .before .before .pre in
-    (map-sound _ _ _ _ _ (pre .1) some (second-held _ _ _ (c .before .if4 .taken)), pre .0 .1, pre .0 .2)
+    (map-formed _ _ _ _ _ (pre .1) some (second-held _ _ _ (c .before .if4 .taken)), pre .0 .1, pre .0 .2)
 
 returns-4 : tie.Need-returns-4
 returns-4 c =
@@ -42,7 +42,7 @@ answer-places-requires-2 c κs =
     let map = c .before .before .before in
     let some = sym (map .before .is-empty .ensures) ∙ map .if3 .left in
     let pre = map .before .before .before .before .before .before .before .pre in
-    (map-sound _ _ _ _ _ (pre .1) some (first-held _ _ _ (c .before .if4 .left)), pre .0 .1, pre .0 .2)
+    (map-formed _ _ _ _ _ (pre .1) some (first-held _ _ _ (c .before .if4 .left)), pre .0 .1, pre .0 .2)
 
 returns-5 : tie.Need-returns-5
 returns-5 c =

@@ -21,7 +21,7 @@ returns c = empty-step _ (Grow _ _) _ refl (c .refused .ensures) (sym (c .before
 grown-requires : tie.Need-grown-requires
 grown-requires c κs = (
   c .before .before .before .before .before .before .before .before .before .before .before .before .before .before .before .pre .0
-      (sym (c .before .before .before .before .before .before .is-empty .ensures) ∙ c .before .before .before .before .before .if1 .left),
+      (sym (c .before .before .before .before .before .before .is-empty .ensures) ∙ c .before .before .before .before .before .if1 .left) .formed,
   c .before
       .before .before .before .before .before .before .before .before .before .before .before .before .before .before .pre .1,
 )

@@ -1,9 +1,9 @@
--- `soundness::is_outside` meets its contract: each return rewrites with its tests. Assumes nothing.
+-- `sizes::is_outside` meets its contract: each return rewrites with its tests. Assumes nothing.
 use borrow.Author.Tests.{eq-eqb, ne-eqb}
 use Rattle.model.specs.Basics.{_or_}
 use Rattle.model.specs.Refusal.{outside}
-use Rattle.soundness.proofs.is_outside.Statement.{statement}
-use Rattle.soundness.proofs.is_outside.Tie as tie
+use Rattle.sizes.proofs.is_outside.Statement.{statement}
+use Rattle.sizes.proofs.is_outside.Tie as tie
 
 returns : tie.Need-returns
 unfolding outside _or_

@@ -1,24 +1,24 @@
--- `figures::keep::bytes` meets its contract. Assumes nothing.
+-- `capacities::print::bytes` meets its contract. Assumes nothing.
 use lib.ListN.{length}
 use Prim.Native.Nat.{_-_, _≤_}
 use borrow.Author.Needs.{needs}
-use Rattle.figures.proofs.keep.bytes.Statement.{statement}
-use Rattle.figures.proofs.keep.bytes.Tie as tie
+use Rattle.capacities.proofs.print.bytes.Statement.{statement}
+use Rattle.capacities.proofs.print.bytes.Tie as tie
 
 abbrev Inv-loop : tie.InvT-loop
-Inv-loop buffer i₀ t3 i = i ≤ length buffer
+Inv-loop buffer i₀ i = i ≤ length buffer
 
 abbrev μ-loop : tie.MeasureT-loop
-μ-loop buffer i₀ t3 i = length buffer - i
-
-loop-holds : tie.Need-loop-holds Inv-loop μ-loop
-loop-holds c = search needs
+μ-loop buffer i₀ i = length buffer - i
 
 slice-aggregate-text : tie.Need-slice-aggregate-text Inv-loop μ-loop
 slice-aggregate-text c = search needs
 
 text-requires : tie.Need-text-requires Inv-loop μ-loop
 text-requires c κs = search needs
+
+loop-holds : tie.Need-loop-holds Inv-loop μ-loop
+loop-holds c = search needs
 
 shared-slice-read-wide : tie.Need-shared-slice-read-wide Inv-loop μ-loop
 shared-slice-read-wide c = search needs
@@ -29,9 +29,6 @@ wide-requires c κs = search needs
 number-requires : tie.Need-number-requires Inv-loop μ-loop
 number-requires c κs = search needs
 
-end-requires : tie.Need-end-requires Inv-loop μ-loop
-end-requires c κs = search needs
-
 add-i : tie.Need-add-i Inv-loop μ-loop
 add-i c = search needs
 
@@ -40,6 +37,9 @@ loop-less c = search needs
 
 loop-again : tie.Need-loop-again Inv-loop μ-loop
 loop-again c = search needs
+
+end-requires : tie.Need-end-requires Inv-loop μ-loop
+end-requires c κs = search needs
 
 returns : tie.Need-returns Inv-loop μ-loop
 returns c = search needs
@@ -50,14 +50,14 @@ bytes-spec =
     (tie.spec
     Inv-loop
     μ-loop
-    loop-holds
     slice-aggregate-text
     text-requires
+    loop-holds
     shared-slice-read-wide
     wide-requires
     number-requires
-    end-requires
     add-i
     loop-less
     loop-again
+    end-requires
     returns)

@@ -1,8 +1,10 @@
 // Saving and loading the map of document 01's history after (10, 3), and what is refused.
+use crate::print::bytes;
 use crate::print::end;
 use crate::print::first;
 use crate::print::number;
 use crate::print::text;
+use model::limits::MAX_CAPACITY;
 use model::table::Header;
 ghost use Prim.Native.Nat.{_<_};
 
@@ -91,6 +93,7 @@ const LONGER: [u8; 37] = [
 fn saved(buffer: &mut [u8]) {
     let h = Header {
         buckets: 10,
+        capacity: MAX_CAPACITY,
         block_count: 2,
         interval_count: 2,
     };
@@ -126,29 +129,23 @@ fn short() {
     bytes(&buffer);
 }
 
-fn bytes(buffer: &[u8]) {
-    let mut i: usize = 0;
-    while i < buffer.len() {
-        text(b"  byte");
-        number(wide(buffer[i]));
-        end();
-        i += 1;
-    }
-}
-
-fn wide(byte: u8) -> u32 {
-    byte as u32
-}
-
 // Loads; refusal, header; the first three entries of each array.
-fn loaded(words: &[u8], file: &[u8], tops: &mut [u32]) {
+pub fn loaded(words: &[u8], file: &[u8], capacity: u32, tops: &mut [u32]) {
     let mut ends = [9u32; 2081];
     let mut blocks = [9u32; 2081];
     let mut adjustments = [9u32; 2081];
-    let reply = irr::load(file, tops, &mut ends, &mut blocks, &mut adjustments);
+    let reply = irr::load(
+        file,
+        capacity,
+        tops,
+        &mut ends,
+        &mut blocks,
+        &mut adjustments,
+    );
     text(words);
     number(reply.refusal);
     number(reply.header.buckets);
+    number(reply.header.capacity);
     number(reply.header.block_count);
     number(reply.header.interval_count);
     end();
@@ -163,10 +160,14 @@ fn three(words: &[u8], numbers: &[u32]) {
     end();
 }
 
-fn with_room(words: &[u8], file: &[u8]) {
+pub fn with_room(words: &[u8], file: &[u8], capacity: u32) {
     let mut tops = [9u32; 65];
-    loaded(words, file, &mut tops);
+    loaded(words, file, capacity, &mut tops);
     three(b"  tops", &tops);
+}
+
+fn ample(words: &[u8], file: &[u8]) {
+    with_room(words, file, MAX_CAPACITY);
 }
 
 // One byte of the file changed.
@@ -175,23 +176,23 @@ fn changed(words: &[u8], at: usize, byte: u8)
 {
     let mut file = FILE;
     file[at] = byte;
-    with_room(words, &file);
+    ample(words, &file);
 }
 
 // 21, then 11 by other lengths, then 11 to 15 by their contents.
 pub fn loads() {
-    with_room(b"load", &FILE);
-    loaded(b"load with 64 tops", &FILE, &mut [9; 64]);
+    ample(b"load", &FILE);
+    loaded(b"load with 64 tops", &FILE, MAX_CAPACITY, &mut [9; 64]);
     lengths();
     contents();
     blocks();
 }
 
 fn lengths() {
-    with_room(b"load 1 byte", &[10]);
-    with_room(b"load 11 bytes", &FILE[..11]);
-    with_room(b"load 35 bytes", &FILE[..35]);
-    with_room(b"load 37 bytes", &LONGER);
+    ample(b"load 1 byte", &[10]);
+    ample(b"load 11 bytes", &FILE[..11]);
+    ample(b"load 35 bytes", &FILE[..35]);
+    ample(b"load 37 bytes", &LONGER);
 }
 
 fn contents() {
