@@ -532,7 +532,8 @@ static uint32_t rows[5 * PAGE];
 static uint32_t places[2 * LIST];
 static uint8_t buffer[MAX_SAVED];
 
-#define LOOP(name) static uint32_t name(const struct calls *c, const struct work *w, size_t times)
+#define INLINE static inline __attribute__((always_inline))
+#define LOOP(name) INLINE uint32_t name(const struct calls *c, const struct work *w, size_t times)
 #define EACH_CALL for (size_t n = 0; n < times; n++)
 #define TURN (n % ARGUMENTS)
 
@@ -636,10 +637,41 @@ LOOP(load_loop)
 	return sum;
 }
 
-static uint32_t (*const loops[CALL_COUNT])(const struct calls *, const struct work *, size_t) = {
-	initial_loop, expand_loop, relocations_loop, place_loop, places_loop, find_loop,
-	bin_size_loop, room_loop, save_loop, load_loop,
-};
+INLINE uint32_t loop(const struct calls *c, const struct work *w, size_t times)
+{
+	switch (w->call) {
+	case INITIAL: return initial_loop(c, w, times);
+	case EXPAND: return expand_loop(c, w, times);
+	case RELOCATIONS: return relocations_loop(c, w, times);
+	case PLACE: return place_loop(c, w, times);
+	case PLACES: return places_loop(c, w, times);
+	case FIND: return find_loop(c, w, times);
+	case BIN_SIZE: return bin_size_loop(c, w, times);
+	case ROOM: return room_loop(c, w, times);
+	case SAVE: return save_loop(c, w, times);
+	case LOAD: return load_loop(c, w, times);
+	default: return 0;
+	}
+}
+
+/* Each side has loops of its own, which call its functions by their names, as a program does.
+ * In a loop that calls now the one side's function and now the other's, by a pointer, the
+ * second cost a nanosecond more on some processors, whichever it was. */
+static __attribute__((noinline)) uint32_t proved_loop(const struct work *w, size_t times)
+{
+	return loop(&proved, w, times);
+}
+
+static __attribute__((noinline)) uint32_t plain_loop(const struct work *w, size_t times)
+{
+	return loop(&plain, w, times);
+}
+
+static __attribute__((noinline)) uint32_t
+third_loop(const struct calls *c, const struct work *w, size_t times)
+{
+	return loop(c, w, times);
+}
 
 /* Seconds of processor time that so many calls take. Each round has its frames elsewhere on
  * the stack: where they lie decides some nanoseconds of a short call. */
@@ -651,7 +683,8 @@ static double seconds(const struct calls *c, const struct work *w, size_t times,
 
 	gap[0] = 0;
 	clock_gettime(CLOCK_PROCESS_CPUTIME_ID, &from);
-	sink = loops[w->call](c, w, times);
+	sink = c == &proved ? proved_loop(w, times) :
+	       c == &plain ? plain_loop(w, times) : third_loop(c, w, times);
 	clock_gettime(CLOCK_PROCESS_CPUTIME_ID, &to);
 	(void)sink;
 	(void)gap[0];

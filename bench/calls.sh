@@ -24,19 +24,19 @@ work=$(mktemp -d)
 trap 'rm -rf "$work"' EXIT
 trap 'exit 2' HUP INT TERM
 
-# The functions of both begin at a cache line: where the linker puts a loop would otherwise
-# decide a good part of its speed.
+# The functions of both, and the loops that call them, begin at a cache line: where the linker
+# puts a loop would otherwise decide a good part of its speed.
 build() {
 	gcc -O3 -std=c11 -Wall -Wextra -Werror -D_POSIX_C_SOURCE=200809L -ffunction-sections \
 		-c "$here/$1.c" -o "$work/$1.o" || fail "gcc failed"
 }
 build calls
 build irr
-for file in "$work/irr.o" "$archive"; do
+for file in "$work/calls.o" "$work/irr.o" "$archive"; do
 	objcopy --set-section-alignment '.text*=64' "$file" "$work/aligned-${file##*/}" ||
 		fail "objcopy failed"
 done
-gcc "$work/calls.o" "$work/aligned-irr.o" "$work/aligned-${archive##*/}" -o "$work/calls" ||
+gcc "$work/aligned-calls.o" "$work/aligned-irr.o" "$work/aligned-${archive##*/}" -o "$work/calls" ||
 	fail "gcc failed"
 status=0
 "$work/calls" "$rounds" || status=$?

@@ -169,9 +169,13 @@ fn room(expansions: u32) {
     end();
 }
 
+// Every number of expansions that is answered, the limit's other side, and numbers whose product just fits in 32 bits and does not.
 pub fn expansions() {
-    room(0);
-    room(64);
-    room(65);
+    for m in 0..66 {
+        room(m);
+    }
+    room(65_535);
+    room(65_536);
+    room(4_294_967_294);
     room(4_294_967_295);
 }

@@ -259,7 +259,7 @@ pub fn bin_size(
 pub fn room(expansions: u32) -> RoomReply
     ensures { λ r. ⌜ r ≡ roomReply expansions ⌝ }
 {
-    room::room(expansions)
+    sizes::room(expansions)
 }
 
 // The saved form of a table, written to `buffer`.

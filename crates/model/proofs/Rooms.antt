@@ -1,4 +1,4 @@
--- Laws of the arrays lent for a new table: that they are long enough, and the initial table written to them. Assumes nothing.
+-- Laws of room: that for expansions, the arrays lent for a new table, which are long enough, and the initial table written to them. Assumes nothing.
 use Prim.Native.Nat.{ℕ, _≤_, _<_}
 use mathlib.Core.Path.{_≡_, refl}
 use mathlib.Core.Bool.{false}
@@ -11,7 +11,14 @@ use Rattle.model.specs.Limits.{maxBlocks, maxIntervals}
 use Rattle.model.specs.Table.{Shape, Arrays, arrays, over, written}
 use Rattle.model.specs.Refusal.{roomShort}
 use Rattle.model.specs.Initial.{initial}
+use Rattle.model.specs.Room.{room}
+use Rattle.model.specs.Claims.{RoomSteps}
 use Rattle.model.proofs.Refusals.{or-left, or-right}
+
+-- the room for expansions, step by step
+pub room-steps : RoomSteps
+unfolding room
+room-steps = (refl, (λ m. omega arith), refl)
 
 -- room for any new table
 pub record Roomy (a : Arrays) : Type 0 where

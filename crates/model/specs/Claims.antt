@@ -6,9 +6,11 @@ use mathlib.Core.Bool.{true}
 use mathlib.Core.List.{List, map}
 use lib.ListN.{length}
 use Rattle.model.specs.Basics.{sum, before}
+use Rattle.model.specs.Limits.{maxIntervals, maxExpansions}
 use Rattle.model.specs.Table.{Shape}
 use Rattle.model.specs.Due.{due, dueOfBins, dueOfBlock}
 use Rattle.model.specs.Refusal.{rises}
+use Rattle.model.specs.Room.{room}
 use Rattle.model.specs.Console.{text, output}
 use Rattle.model.specs.Figures.{starred, computed}
 use Rattle.model.specs.Balance.{
@@ -56,6 +58,10 @@ BlockDuesSum =
     (s : Shape) (tops : List ℕ) → 1 ≤ s .bins → rises tops (length tops) ≡ true → before tops (length tops) ≡ s .bins
     → sum (dueOfBlock s tops) (length tops) ≡ s .buckets
 
+-- room: one interval before any expansion, m + 1 more with expansion m + 1, and with the most expansions the most intervals
+abbrev pub RoomSteps : Type 0
+RoomSteps = (room 0 ≡ 1) × ((m : ℕ) → room (m + 1) ≡ room m + (m + 1)) × (room maxExpansions ≡ maxIntervals)
+
 -- a balanced map exists for all sizes, so a rival does
 abbrev pub BalancedExists : Type 0
 BalancedExists = (s : Shape) → 1 ≤ s .bins → Balanced s (λ x. x % s .bins)
@@ -93,6 +99,7 @@ pub record Claims : Type 0 where
   pub oneWay : OneWay
   pub duesSum : DuesSum
   pub blockDuesSum : BlockDuesSum
+  pub roomSteps : RoomSteps
   pub balancedExists : BalancedExists
   pub mostHeld : MostHeld
   pub leastOfOne : LeastOfOne

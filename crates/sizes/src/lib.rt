@@ -1,8 +1,10 @@
-// The sizes and the capacity asked for, the room lent for a new table, and the initial table.
+// The sizes and the capacity asked for, the room for tables, and the initial table.
 use model::limits::BLOCKS;
 use model::limits::INTERVALS;
 use model::limits::MAX_BINS;
 use model::limits::MAX_BUCKETS;
+use model::limits::MAX_EXPANSIONS;
+use model::reply::RoomReply;
 use model::reply::TableReply;
 use model::table::Header;
 ghost use mathlib.Core.Path.{_≡_};
@@ -13,7 +15,7 @@ ghost use Prim.Native.Nat.{ℕ, _≤_};
 ghost use Rattle.model.specs.Table.{written, sizes};
 ghost use Rattle.model.specs.Refusal.{first, outside, overfills, roomShort};
 ghost use Rattle.model.specs.Initial.{initial};
-ghost use Rattle.model.specs.Calls.{sizeTests, freshTests};
+ghost use Rattle.model.specs.Calls.{sizeTests, freshTests, roomReply};
 
 // 21: room for a new table below 65 tops or below 2,081 of any interval array.
 pub fn room_short(tops: &[u32], ends: &[u32], blocks: &[u32], adjustments: &[u32]) -> bool
@@ -29,6 +31,22 @@ pub fn room_short(tops: &[u32], ends: &[u32], blocks: &[u32], adjustments: &[u32
         return true;
     }
     adjustments.len() < INTERVALS
+}
+
+// The intervals to set aside for a number of expansions: m(m + 1) / 2 + 1. 9: more than 64 expansions.
+pub fn room(expansions: u32) -> RoomReply
+    ensures { λ r. ⌜ r ≡ roomReply expansions ⌝ }
+{
+    if MAX_EXPANSIONS < expansions {
+        return RoomReply {
+            refusal: 9,
+            intervals: 0,
+        };
+    }
+    RoomReply {
+        refusal: 0,
+        intervals: expansions * (expansions + 1) / 2 + 1,
+    }
 }
 
 // Whether x is 0 or above its limit.
