@@ -138,6 +138,24 @@ static void check_replies(void)
     same("irr_room", ROOM(room), WANT(0, 2081));
 }
 
+/* room: one interval, and for each expansion one more than for the one before it; then 9, also
+ * where the product of the rule does not fit in 32 bits */
+static void check_rooms(void)
+{
+    static const uint32_t past[] = {65, 66, 65535, 65536, UINT32_MAX - 1, UINT32_MAX};
+    struct irr_room_reply room;
+    uint32_t intervals = 1;
+    for (uint32_t m = 0; m <= IRR_MAX_EXPANSIONS; m++) {
+        intervals += m;
+        room = irr_room(m);
+        same("irr_room, step by step", ROOM(room), WANT(0, intervals));
+    }
+    for (size_t i = 0; i < sizeof past / sizeof *past; i++) {
+        room = irr_room(past[i]);
+        same("irr_room, past its limit", ROOM(room), WANT(9, 0));
+    }
+}
+
 /* the bytes of document 01's saved form of the map of 10 buckets in 3 bins */
 static void check_file(void)
 {
@@ -243,6 +261,7 @@ static void check_empty(uint32_t *p)
 int main(void)
 {
     check_replies();
+    check_rooms();
     check_file();
     check_figures();
     check_small_figures();
