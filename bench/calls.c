@@ -656,7 +656,7 @@ INLINE uint32_t loop(const struct calls *c, const struct work *w, size_t times)
 
 /* Each side has loops of its own, which call its functions by their names, as a program does.
  * Called by a pointer from one loop for both, the side that comes second in a round takes 0.8
- * nanoseconds a call more on some processors, whichever it is. */
+ * nanoseconds a call more on one processor that was tried, whichever it is. */
 static __attribute__((noinline)) uint32_t proved_loop(const struct work *w, size_t times)
 {
 	return loop(&proved, w, times);

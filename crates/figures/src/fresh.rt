@@ -169,7 +169,7 @@ fn room(expansions: u32) {
     end();
 }
 
-// Every number of expansions that is answered, the limit's other side, and numbers whose product just fits in 32 bits and does not.
+// Every number of expansions that is answered, and the next one. m(m + 1) fits in 32 bits for 65,535 and not for 65,536; modulo 2^32 it is 2 and 0 for the last two.
 pub fn expansions() {
     for m in 0..66 {
         room(m);

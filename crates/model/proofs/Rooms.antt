@@ -1,4 +1,4 @@
--- Laws of room: that for expansions, the arrays lent for a new table, which are long enough, and the initial table written to them. Assumes nothing.
+-- Laws of room: the intervals for expansions; that the arrays lent for a new table are long enough; the initial table written to them. Assumes nothing.
 use Prim.Native.Nat.{ℕ, _≤_, _<_}
 use mathlib.Core.Path.{_≡_, refl}
 use mathlib.Core.Bool.{false}
@@ -15,7 +15,7 @@ use Rattle.model.specs.Room.{room}
 use Rattle.model.specs.Claims.{RoomSteps}
 use Rattle.model.proofs.Refusals.{or-left, or-right}
 
--- the room for expansions, step by step
+-- the intervals for expansions, step by step
 pub room-steps : RoomSteps
 unfolding room
 room-steps = (refl, (λ m. omega arith), refl)

@@ -12,22 +12,24 @@ use Rattle.model.specs.Calls.{answer, roomRefusal, roomReply}
 use Rattle.sizes.proofs.room.Statement.{statement}
 use Rattle.sizes.proofs.room.Tie as tie
 
+-- numbers of 16 bits have a product of 32
 product : {m k : ℕ} → m < 2 ^ 16 → k < 2 ^ 16 → m * k < 2 ^ 32
 product l e = omega (arith, mul-le-mul l e)
 
+-- and half of such a product, with a small number more, fits too
 half : {x k : ℕ} → x < 2 ^ 32 → k < 2 ^ 16 → x / 2 + k < 2 ^ 32
 half l e = omega arith
 
-refused : (m : ℕ) → 64 < m → record { refusal = 9; intervals = 0 } ≡ roomReply m
+refused : (m v : ℕ) → 64 < m → v ≡ 0 → record { refusal = 9; intervals = v } ≡ roomReply m
 unfolding roomReply roomRefusal answer first if_then_else_
-refused m l = rw (lt-ltb 64 m l)
+refused m v l e = rw (lt-ltb 64 m l, e)
 
 accepted : (m v : ℕ) → m ≤ 64 → v ≡ room m → record { refusal = 0; intervals = v } ≡ roomReply m
 unfolding roomReply roomRefusal answer first if_then_else_
 accepted m v l e = rw (le-ltb 64 m l, e)
 
 returns : tie.Need-returns
-returns c = refused _ (omega arith)
+returns c = refused _ _ (omega arith) refl
 
 add-t3 : tie.Need-add-t3
 add-t3 c = search needs
