@@ -20,6 +20,8 @@ enum {
 	MAX_SAVED = 12 + 4 * MAX_BLOCKS + 8 * MAX_INTERVALS,
 	PAGE = 8192,       /* rows of the longer page of the move list */
 	SHORT_PAGE = 64,
+	MANY_BUCKETS = 324999988, /* of the maps that are measured */
+	FEW_BUCKETS = 324988,     /* of one whose sheet has short numbers */
 	LIST = 100000,     /* buckets of the longest list */
 	SHORT_LIST = 300,
 	ARGUMENTS = 1024,  /* a power of 2: the calls of a measurement go round them */
@@ -30,12 +32,13 @@ enum {
 /* ---------------------------------------------------------------- the calls */
 
 enum call {
-	INITIAL, EXPAND, RELOCATIONS, PLACE, PLACES, FIND, BIN_SIZE, ROOM, SAVE, LOAD, CALL_COUNT
+	INITIAL, EXPAND, RELOCATIONS, PLACE, PLACES, FIND, BIN_SIZE, ROOM, SAVE, LOAD, SHEET,
+	CALL_COUNT
 };
 
 static const char *const names[CALL_COUNT] = {
 	"initial", "expand", "relocations", "place", "places", "find", "bin_size", "room", "save",
-	"load",
+	"load", "sheet",
 };
 
 struct calls {
@@ -49,16 +52,17 @@ struct calls {
 	__typeof__(irr_room) *room;
 	__typeof__(irr_save) *save;
 	__typeof__(irr_load) *load;
+	__typeof__(irr_sheet) *sheet;
 };
 
 static const struct calls proved = {
 	irr_initial, irr_expand, irr_relocations, irr_place, irr_places, irr_find,
-	irr_bin_size, irr_room, irr_save, irr_load,
+	irr_bin_size, irr_room, irr_save, irr_load, irr_sheet,
 };
 
 static const struct calls plain = {
 	plain_initial, plain_expand, plain_relocations, plain_place, plain_places, plain_find,
-	plain_bin_size, plain_room, plain_save, plain_load,
+	plain_bin_size, plain_room, plain_save, plain_load, plain_sheet,
 };
 
 /* In the place of `bin_size`, a sum over the lent numbers: the least that reading them costs. */
@@ -102,6 +106,30 @@ place_each(struct irr_header h, const uint32_t *tops, size_t tops_length,
 }
 
 static const struct calls single = {.places = place_each};
+
+/* In the place of `sheet`, its lines by snprintf, with no check: the buffer has room for a null
+ * character behind the last. */
+static struct irr_sheet_reply
+format_each(struct irr_header h, const uint32_t *tops, size_t tops_length,
+	    const uint32_t *ends, size_t ends_length, const uint32_t *blocks, size_t blocks_length,
+	    const uint32_t *adjustments, size_t adjustments_length,
+	    uint8_t *buffer, size_t buffer_length)
+{
+	uint32_t start = 0;
+
+	(void)tops_length, (void)ends_length, (void)blocks_length, (void)adjustments;
+	(void)adjustments_length, (void)buffer_length;
+	for (uint32_t i = 0; i < h.interval_count; i++) {
+		uint32_t block = blocks[i], first = block == 0 ? 0 : tops[block - 1];
+
+		snprintf((char *)buffer + IRR_LINE * i, IRR_LINE + 1, "%10u%10u%10u%10u%10u\n", start,
+			 ends[i] - 1, block, first, tops[block] - first);
+		start = ends[i];
+	}
+	return (struct irr_sheet_reply){0, IRR_LINE * h.interval_count};
+}
+
+static const struct calls formatting = {.sheet = format_each};
 
 struct map {
 	struct irr_header header;
@@ -152,9 +180,9 @@ static uint32_t bins_of(const struct map *m)
 
 /* A fresh map of 100 bins, and one bin more at a time until there are so many blocks. Each
  * growth cuts nearly every old block's last interval. */
-static struct map history(uint32_t blocks)
+static struct map history(uint32_t buckets, uint32_t blocks)
 {
-	struct map m = fresh(324999988, 100);
+	struct map m = fresh(buckets, 100);
 
 	while (m.header.block_count < blocks)
 		m = grown(&m, m.header.buckets, bins_of(&m) + 1);
@@ -164,7 +192,7 @@ static struct map history(uint32_t blocks)
 /* The largest table: the history to 65 blocks, and one bucket more. */
 static struct map largest(void)
 {
-	struct map m = history(MAX_BLOCKS);
+	struct map m = history(MANY_BUCKETS, MAX_BLOCKS);
 
 	m = grown(&m, m.header.buckets + 1, bins_of(&m));
 	if (m.header.block_count != MAX_BLOCKS || m.header.interval_count != MAX_INTERVALS)
@@ -210,7 +238,7 @@ struct answer {
 	uint32_t tops[MAX_BLOCKS + PAST], ends[MAX_INTERVALS + PAST];
 	uint32_t blocks[MAX_INTERVALS + PAST], adjustments[MAX_INTERVALS + PAST];
 	uint32_t rows[5 * PAGE + PAST];
-	uint8_t buffer[MAX_SAVED + PAST];
+	uint8_t buffer[IRR_MAX_SHEET + PAST];
 	uint32_t places[2 * LIST + PAST]; /* last: only what is lent of it is compared */
 };
 
@@ -262,13 +290,16 @@ static void ask(const struct calls *c, const struct question *q, struct answer *
 	case SAVE:
 		REPLY(a, c->save(LENT(q), a->buffer, q->buffer_length));
 		break;
+	case SHEET:
+		REPLY(a, c->sheet(LENT(q), a->buffer, q->buffer_length));
+		break;
 	default:
 		REPLY(a, c->load(q->bytes, q->bytes_length, q->capacity, NEW(q, a)));
 	}
 }
 
 static unsigned long questions, accepted;
-static bool seen[34]; /* refusals */
+static bool seen[35]; /* refusals */
 
 /* Asks both. Ends the program if their replies or any array that they were lent differ, or
  * if an array that is only to be read has changed. */
@@ -314,7 +345,7 @@ static struct question full_question(enum call call, const struct map *m)
 		.lengths = {MAX_BLOCKS, MAX_INTERVALS, MAX_INTERVALS, MAX_INTERVALS},
 		.new_lengths = {MAX_BLOCKS, MAX_INTERVALS, MAX_INTERVALS, MAX_INTERVALS},
 		.rows_length = 5 * SHORT_PAGE,
-		.buffer_length = MAX_SAVED,
+		.buffer_length = IRR_MAX_SHEET,
 		.bytes = (const uint8_t *)"",
 		.buckets = no_buckets,
 	};
@@ -438,7 +469,8 @@ static void ask_numbers(struct question *q, const struct map *m)
 /* Lends arrays and buffers that are often too short. */
 static void ask_lengths(struct question *q, const struct map *m)
 {
-	size_t needed = 12 + 4 * m->header.block_count + 8 * m->header.interval_count;
+	size_t needed = q->call == SHEET ? IRR_LINE * m->header.interval_count :
+			12 + 4 * m->header.block_count + 8 * m->header.interval_count;
 
 	q->lengths[0] = m->header.block_count;
 	for (int i = 1; i < 4; i++)
@@ -493,7 +525,7 @@ static void compare_growths(const struct map *m)
 static void compare_random(const struct map *large, size_t count)
 {
 	static const int numbers[] = {1, 2, 3, 4, 5, 6, 7, 8, 9, 11, 12, 13, 14, 15, 16, 21,
-				      30, 31, 32, 33};
+				      30, 31, 32, 33, 34};
 	struct map m;
 
 	for (int i = 0; i < 3000; i++) {
@@ -530,7 +562,7 @@ struct work {
 static struct map out;
 static uint32_t rows[5 * PAGE];
 static uint32_t places[2 * LIST];
-static uint8_t buffer[MAX_SAVED];
+static uint8_t buffer[IRR_MAX_SHEET + 1];
 
 #define INLINE static inline __attribute__((always_inline))
 #define LOOP(name) INLINE uint32_t name(const struct calls *c, const struct work *w, size_t times)
@@ -637,6 +669,15 @@ LOOP(load_loop)
 	return sum;
 }
 
+LOOP(sheet_loop)
+{
+	uint32_t sum = 0;
+
+	EACH_CALL
+		sum += c->sheet(w->map->header, ARRAYS(w->map), buffer, IRR_MAX_SHEET).length;
+	return sum;
+}
+
 INLINE uint32_t loop(const struct calls *c, const struct work *w, size_t times)
 {
 	switch (w->call) {
@@ -650,6 +691,7 @@ INLINE uint32_t loop(const struct calls *c, const struct work *w, size_t times)
 	case ROOM: return room_loop(c, w, times);
 	case SAVE: return save_loop(c, w, times);
 	case LOAD: return load_loop(c, w, times);
+	case SHEET: return sheet_loop(c, w, times);
 	default: return 0;
 	}
 }
@@ -746,8 +788,8 @@ static void measure(struct work *works, size_t count, int rounds)
 	for (size_t i = 0; i < count; i++) {
 		works[i].times = calls_for(&works[i]);
 		/* as many calls, or few where one does the work of many */
-		works[i].third_times = works[i].call == PLACES ? works[i].times / 64 + 1
-							       : works[i].times;
+		works[i].third_times = works[i].call == PLACES || works[i].call == SHEET ?
+				       works[i].times / 64 + 1 : works[i].times;
 		for (int which = 0; which < 3; which++)
 			works[i].seconds[which] = room_for(rounds);
 		works[i].ratios = room_for(rounds);
@@ -814,7 +856,7 @@ static struct work *add(enum call call, const struct map *m, const char *what)
 	w->call = call;
 	w->map = m;
 	snprintf(w->what, sizeof w->what, "%s", what);
-	w->third = call == BIN_SIZE ? &summing : NULL;
+	w->third = call == BIN_SIZE ? &summing : call == SHEET ? &formatting : NULL;
 	w->bytes_length = plain.save(m->header, ARRAYS(m), w->bytes, MAX_SAVED).length;
 	for (int i = 0; i < ARGUMENTS; i++) {
 		uint32_t bins = bins_of(m);
@@ -897,19 +939,23 @@ static struct work *add_lists(const struct map *m, size_t length, size_t count, 
 
 /* The maps of the measurements, by their blocks or what becomes of them; the widest, which
  * has as many bins as a map may have, is only asked about. */
-enum {ONE, TWELVE, THIRTY_TWO, SIXTY_FOUR, LARGEST, HALVED_ONE, HALVED_TEN, WIDEST, MAP_COUNT};
+enum {
+	ONE, TWELVE, THIRTY_TWO, SIXTY_FOUR, LARGEST, HALVED_ONE, HALVED_TEN, WIDEST, SHORT_NUMBERS,
+	MAP_COUNT
+};
 static struct map maps[MAP_COUNT];
 
 static void make_maps(void)
 {
-	maps[ONE] = history(1);
-	maps[TWELVE] = history(12);
-	maps[THIRTY_TWO] = history(32);
-	maps[SIXTY_FOUR] = history(64);
+	maps[ONE] = history(MANY_BUCKETS, 1);
+	maps[TWELVE] = history(MANY_BUCKETS, 12);
+	maps[THIRTY_TWO] = history(MANY_BUCKETS, 32);
+	maps[SIXTY_FOUR] = history(MANY_BUCKETS, 64);
 	maps[LARGEST] = largest();
 	maps[HALVED_ONE] = fresh(1000000000, 1);
 	maps[HALVED_TEN] = fresh(1000000000, 10);
 	maps[WIDEST] = fresh(999999999, 65535);
+	maps[SHORT_NUMBERS] = history(FEW_BUCKETS, 64);
 }
 
 /* The calls on the largest table and on a fresh one. */
@@ -937,6 +983,10 @@ static void add_calls(void)
 	add_pages(&maps[HALVED_TEN], 20, "10 bins to 20");
 	add(INITIAL, one, "any sizes");
 	add(ROOM, one, "0 to 64 growths");
+	add(SHEET, all, "largest");
+	add(SHEET, &maps[SHORT_NUMBERS], "64 blocks, 324,988 buckets");
+	add(SHEET, &maps[TWELVE], "12 blocks");
+	add(SHEET, one, "fresh");
 }
 
 /* The same calls on tables of rising length. */
@@ -1034,6 +1084,22 @@ static void print_single(void)
 	       w->list_length, 1e6 * batch, 1e6 * each, w->list_length, each / batch);
 }
 
+/* What a sheet costs by snprintf, without any check of the table. */
+static void print_formatted(void)
+{
+	const struct work *w = works;
+
+	while (w->third != &formatting)
+		w++;
+
+	double proved_call = quartile(w->seconds[0], 2) / (double)w->times;
+	double formatted = quartile(w->seconds[2], 2) / (double)w->third_times;
+
+	printf("\nThe sheet of the largest table: %.1f microseconds by the proved `sheet`, check and all,\n"
+	       "%.1f by snprintf without a check, which is %.1f times as long.\n",
+	       1e6 * proved_call, 1e6 * formatted, formatted / proved_call);
+}
+
 static void print_slower(void)
 {
 	bool slower = false;
@@ -1080,6 +1146,7 @@ int main(int argc, char **argv)
 		    works + work_count);
 	print_bytes();
 	print_single();
+	print_formatted();
 	print_slower();
 	return 0;
 }

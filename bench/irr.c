@@ -1,4 +1,4 @@
-/* The ten calls of the placement map in plain C: what the proved calls are measured
+/* The eleven calls of the placement map in plain C: what the proved calls are measured
  * against. Same arguments, same replies, same refusals in the same order. What they do
  * with a table that has passed the check is in method.h.
  */
@@ -6,7 +6,11 @@
 #include "plain.h"
 
 enum {
-	SUMS = 68 /* cells for the sums of IRR_MAX_BLOCKS, a multiple of 4 */
+	SUMS = 68, /* cells for the sums of IRR_MAX_BLOCKS, a multiple of 4 */
+	FIELD = 10, /* columns */
+	HEAD = 2 * FIELD, /* of a line of a sheet: the fields of an interval */
+	TAIL = 3 * FIELD + 1, /* those of its block, and the line feed */
+	MANY = 128 /* intervals from which on it pays to write each block's tail once */
 };
 
 _Static_assert(__BYTE_ORDER__ == __ORDER_LITTLE_ENDIAN__, "a saved number is copied as it is");
@@ -675,4 +679,85 @@ plain_load(const uint8_t *bytes, size_t bytes_length, uint32_t capacity,
 	memcpy(blocks, file_blocks, bytes_each);
 	memcpy(adjustments, adjustment, bytes_each);
 	return (struct irr_load_reply){0, h};
+}
+
+/* -------------------------------------------------------------------- sheet */
+
+/* A number right-aligned in its field, two digits at a time from the last. */
+static inline void put_field(char *to, uint32_t value)
+{
+	char *end = to + FIELD;
+
+	memset(to, ' ', FIELD);
+	while (value >= 100) {
+		end -= 2;
+		put_pair(end, value % 100);
+		value /= 100;
+	}
+	if (value >= 10)
+		put_pair(end - 2, value);
+	else
+		end[-1] = (char)('0' + value);
+}
+
+static inline void put_head(char *to, uint32_t start, uint32_t end)
+{
+	put_field(to, start);
+	put_field(to + FIELD, end - 1);
+}
+
+static inline void put_tail(char *to, const uint32_t *tops, uint32_t block)
+{
+	uint32_t first = block == 0 ? 0 : tops[block - 1];
+
+	put_field(to, block);
+	put_field(to + FIELD, first);
+	put_field(to + 2 * FIELD, tops[block] - first);
+	to[3 * FIELD] = '\n';
+}
+
+static inline void write_few(const struct table *t, char *to)
+{
+	uint32_t start = 0;
+
+	for (uint32_t i = 0; i < t->header.interval_count; i++, to += IRR_LINE) {
+		put_head(to, start, t->ends[i]);
+		put_tail(to + HEAD, t->tops, t->blocks[i]);
+		start = t->ends[i];
+	}
+}
+
+static __attribute__((noinline)) void write_many(const struct table *t, char *to)
+{
+	char tails[IRR_MAX_BLOCKS][TAIL + 1];
+	uint32_t start = 0;
+
+	for (uint32_t j = 0; j < t->header.block_count; j++)
+		put_tail(tails[j], t->tops, j);
+	for (uint32_t i = 0; i < t->header.interval_count; i++, to += IRR_LINE) {
+		put_head(to, start, t->ends[i]);
+		memcpy(to + HEAD, tails[t->blocks[i]], TAIL);
+		start = t->ends[i];
+	}
+}
+
+struct irr_sheet_reply
+plain_sheet(struct irr_header header,
+	    const uint32_t *tops, size_t tops_length, const uint32_t *ends, size_t ends_length,
+	    const uint32_t *blocks, size_t blocks_length,
+	    const uint32_t *adjustments, size_t adjustments_length,
+	    uint8_t *buffer, size_t buffer_length)
+{
+	struct table t = {header, tops, ends, blocks, adjustments, {0, 0}};
+	uint32_t refusal = check(&t, tops_length, ends_length, blocks_length, adjustments_length);
+
+	if (refusal != 0)
+		return (struct irr_sheet_reply){.refusal = refusal};
+	if (buffer_length < (size_t)IRR_LINE * header.interval_count)
+		return (struct irr_sheet_reply){.refusal = 34};
+	if (header.interval_count < MANY)
+		write_few(&t, (char *)buffer);
+	else
+		write_many(&t, (char *)buffer);
+	return (struct irr_sheet_reply){0, IRR_LINE * header.interval_count};
 }

@@ -55,6 +55,17 @@ static inline uint64_t pair(uint32_t a, uint32_t b)
 	return a + ((uint64_t)b << 32);
 }
 
+/* Writes the two digits of a number below 100. */
+static inline void put_pair(char *to, uint32_t pair)
+{
+	static const char pairs[] =
+		"00010203040506070809101112131415161718192021222324252627282930313233"
+		"34353637383940414243444546474849505152535455565758596061626364656667"
+		"6869707172737475767778798081828384858687888990919293949596979899";
+
+	memcpy(to, pairs + 2 * pair, 2);
+}
+
 static inline uint32_t bins_of(const struct table *t)
 {
 	return t->tops[t->header.block_count - 1];

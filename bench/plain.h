@@ -1,4 +1,4 @@
-/* The ten calls by hand (irr.c), each declared like the proved call of its name. */
+/* The eleven calls by hand (irr.c), each declared like the proved call of its name. */
 #ifndef BENCH_PLAIN_H
 #define BENCH_PLAIN_H
 
@@ -16,6 +16,7 @@ PLAIN(bin_size);
 PLAIN(room);
 PLAIN(save);
 PLAIN(load);
+PLAIN(sheet);
 
 #undef PLAIN
 

@@ -46,17 +46,6 @@ static inline char *reply_room(void)
 	return output_next;
 }
 
-/* Writes the two digits of a number below 100. */
-static inline void put_pair(char *to, uint32_t pair)
-{
-	static const char pairs[] =
-		"00010203040506070809101112131415161718192021222324252627282930313233"
-		"34353637383940414243444546474849505152535455565758596061626364656667"
-		"6869707172737475767778798081828384858687888990919293949596979899";
-
-	memcpy(to, pairs + 2 * pair, 2);
-}
-
 /* Writes a number below 100,000,000 in eight digits, all at once: its first four and its last
  * four stand in the halves of a word, then the pairs in its quarters, then the digits in its
  * bytes, the last one lowest. */

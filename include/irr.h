@@ -34,7 +34,7 @@ extern "C" {
 
 /* The version of this header and its library; IRR_VERSION is one number, to compare in an #if. */
 #define IRR_VERSION_MAJOR 0
-#define IRR_VERSION_MINOR 3
+#define IRR_VERSION_MINOR 4
 #define IRR_VERSION_PATCH 0
 #define IRR_VERSION (10000 * IRR_VERSION_MAJOR + 100 * IRR_VERSION_MINOR + IRR_VERSION_PATCH)
 
@@ -46,6 +46,8 @@ extern "C" {
 #define IRR_MAX_EXPANSIONS 64       /* the most that irr_room answers for */
 #define IRR_ROW 5                   /* numbers in a row of irr_relocations */
 #define IRR_MAX_SAVED 16920         /* bytes of the largest saved map: 12 + 4 * 65 + 8 * 2081 */
+#define IRR_LINE 51                 /* bytes in a line of irr_sheet, its line feed among them */
+#define IRR_MAX_SHEET 106131        /* bytes of the longest sheet: 51 * 2081 */
 
 /* The refusal numbers, as document 01 has them, and those that requests add to it. */
 enum irr_refusal {
@@ -76,7 +78,8 @@ enum irr_refusal {
                                 below the size of its largest bin */
     /* lent room */
     IRR_ROOM_SHORT = 21,     /* below 65 tops or 2,081 of an interval array, or a file's length */
-    IRR_RESULT_SHORT = 33    /* a result shorter than two numbers a bucket */
+    IRR_RESULT_SHORT = 33,   /* a result shorter than two numbers a bucket */
+    IRR_SHEET_SHORT = 34     /* a buffer shorter than 51 bytes an interval */
 };
 
 /* What travels with the four arrays of a table. */
@@ -132,6 +135,11 @@ struct irr_save_reply {
 struct irr_load_reply {
     uint32_t refusal;
     struct irr_header header; /* of the table written */
+};
+
+struct irr_sheet_reply {
+    uint32_t refusal;
+    uint32_t length; /* bytes written */
 };
 
 /*
@@ -260,6 +268,21 @@ struct irr_load_reply irr_load(
     uint32_t *ends, size_t ends_len,
     uint32_t *blocks, size_t blocks_len,
     uint32_t *adjustments, size_t adjustments_len);
+
+/*
+ * The rack sheet of a table, as text: one line an interval, from the left. A line has five decimal
+ * numbers, each right-aligned with blanks in 10 columns, and a line feed: the interval's first
+ * bucket and its last, its block, the block's first bin and how many bins the block has. There is no
+ * heading, and no null character at the end.
+ * Refusals: 11, 12, 13, 14, 15, 16, 30, 34. Writes 51 * intervals bytes of `buffer`.
+ */
+struct irr_sheet_reply irr_sheet(
+    struct irr_header header,
+    const uint32_t *tops, size_t tops_len,
+    const uint32_t *ends, size_t ends_len,
+    const uint32_t *blocks, size_t blocks_len,
+    const uint32_t *adjustments, size_t adjustments_len,
+    uint8_t *buffer, size_t buffer_len);
 
 #ifdef __cplusplus
 }

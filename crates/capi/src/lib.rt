@@ -1,4 +1,4 @@
-// The ten calls for C, declared in include/irr.h: each is the call of `irr` of its name, with its contract. A slice is a pointer
+// The eleven calls for C, declared in include/irr.h: each is the call of `irr` of its name, with its contract. A slice is a pointer
 // and a length.
 ghost use mathlib.Core.Path.{_≡_};
 ghost use Rattle.model.specs.Lent.{given, left};
@@ -19,6 +19,8 @@ ghost use Rattle.model.specs.Calls.{
   saveBytes,
   loadReply,
   loadArrays,
+  sheetReply,
+  sheetBytes,
 };
 ghost use Rattle.model.specs.Table.{sizes};
 use model::reply::BinSizeReply;
@@ -29,6 +31,7 @@ use model::reply::PlacesReply;
 use model::reply::RelocationsReply;
 use model::reply::RoomReply;
 use model::reply::SaveReply;
+use model::reply::SheetReply;
 use model::reply::TableReply;
 use model::table::Header;
 
@@ -214,4 +217,19 @@ pub extern "C" fn irr_load(
     ensures { λ _. ⌜ left tops ends blocks adjustments ≡ loadArrays (now (bytes .entry)) capacity (given tops ends blocks adjustments) ⌝ }
 {
     irr::load(bytes, capacity, tops, ends, blocks, adjustments)
+}
+
+#[no_mangle]
+pub extern "C" fn irr_sheet(
+    header: Header,
+    tops: &[u32],
+    ends: &[u32],
+    blocks: &[u32],
+    adjustments: &[u32],
+    buffer: &mut [u8],
+) -> SheetReply
+    ensures { λ r. ⌜ r ≡ sheetReply header (given tops ends blocks adjustments) (now (buffer .entry)) ⌝ }
+    ensures { λ _. ⌜ now (buffer .exit) ≡ sheetBytes header (given tops ends blocks adjustments) (now (buffer .entry)) ⌝ }
+{
+    irr::sheet(header, tops, ends, blocks, adjustments, buffer)
 }

@@ -8,7 +8,7 @@ use lib.ListN.{length}
 use borrow.Author.Tests.{lt-ltb, le-ltb}
 use Rattle.model.specs.Basics.{if_then_else_}
 use Rattle.model.specs.Limits.{maxCapacity}
-use Rattle.model.specs.Table.{Shape, Arrays, arrays, table, header, over, written}
+use Rattle.model.specs.Table.{Shape, Table, Arrays, arrays, table, header, over, written}
 use Rattle.model.specs.Refusal.{Test, first, overfills, outside, headerOutside, arraysShort, capacityOutside, roomShort, resultShort}
 use Rattle.model.specs.Place.{places}
 use Rattle.model.specs.Search.{placeAt}
@@ -19,11 +19,15 @@ use Rattle.model.specs.Calls.{answer, noHeader, tableTests, sizeTests, freshTes
 use Rattle.model.specs.Calls.{initialArrays, saveTests, saveRefusal, saveReply, saveBytes, loadTests, loadRefusal, loadAnswer}
 use Rattle.model.specs.Calls.{loadReply, loadArrays, placeAnswer, placeTests, placeReply, findAnswer, findTests, findReply}
 use Rattle.model.specs.Calls.{binSizeAnswer, binSizeTests, binSizeReply, placesTests, placesRefusal, placesReply, placesAfter}
+use Rattle.model.specs.Calls.{sheetTests, sheetRefusal, sheetAnswer, sheetAfter, sheetReply, sheetBytes}
+use Rattle.model.specs.Sheet.{sheet}
 use Rattle.model.specs.declared.table.Header.{Header}
 use Rattle.model.specs.declared.reply.TableReply.{TableReply}
+use Rattle.model.specs.declared.reply.SheetReply.{SheetReply}
 use Rattle.model.proofs.Refusals.{first-here, first-skip, first-found, first-after, accepted, refused}
 use Rattle.file_load.specs.Loading.{loadedOver}
 use Rattle.model.proofs.Bytes.{saved-same}
+use Rattle.model.proofs.Sheets.{sheet-same}
 use Rattle.model.proofs.Loads.{or-second}
 use Rattle.model.proofs.Soundness.{sound-iff, table-numbered}
 use Rattle.model.proofs.Searches.{place-answered}
@@ -215,3 +219,31 @@ pub save-written
 save-written h t e b c x s =
     ap (λ f. over f x)
     (saved-same h t e b [] c (record { tops = s .topsLong; ends = s .endsLong; blocks = s .blocksLong }))
+
+-- THE RACK SHEET
+
+module _ (h : Header) (a : Arrays) (r : ℕ) (e : r ≡ first (tableTests h a)) (buffer : List ℕ) where
+  pub sheet-refused
+      : (r ≡ 0 → ⊥) → (record { refusal = r; length = 0 } ≡ sheetReply h a buffer) × (buffer ≡ sheetBytes h a buffer)
+  unfolding sheetReply sheetAnswer sheetBytes sheetAfter sheetRefusal
+  sheet-refused n =
+      (rw (← stands h a r e _ n) (sym (refused r _ _ n)), rw (← stands h a r e _ n) (sym (refused r _ _ n)))
+
+-- no adjustment is on it
+pub sheet-printed
+    : (h : Header) (t e b c : List ℕ) (r : ℕ) → r ≡ first (tableTests h (arrays t e b c)) → r ≡ 0
+    → (buffer out : List ℕ) (v : SheetReply) → v ≡ sheetAnswer (first (sheetTests h buffer)) h
+    → out ≡ sheetAfter (first (sheetTests h buffer)) (table h (arrays t e b [])) buffer
+    → (v ≡ sheetReply h (arrays t e b c) buffer) × (out ≡ sheetBytes h (arrays t e b c) buffer)
+unfolding sheetReply sheetBytes sheetAfter sheetRefusal
+sheet-printed h t e b c r f z buffer out v p q =
+    let tests = passed h (arrays t e b c) r f (sheetTests h buffer) z in
+    let same = sheet-same h t e b c [] (checked h (arrays t e b c) r f z) in (
+      p ∙ ap (λ n. sheetAnswer n h) tests,
+      q
+          ∙ after-same (first (sheetTests h buffer)) (table h (arrays t e b [])) (table h (arrays t e b c)) (sym same)
+          ∙ ap (λ n. sheetAfter n (table h (arrays t e b c)) buffer) tests,
+    )
+  where
+    after-same : (n : ℕ) (u w : Table) → sheet u ≡ sheet w → sheetAfter n u buffer ≡ sheetAfter n w buffer
+    after-same n u w e = ap (λ (l : List ℕ). answer n (over l buffer) buffer) e

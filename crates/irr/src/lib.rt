@@ -20,6 +20,8 @@ ghost use Rattle.model.specs.Calls.{
   saveBytes,
   loadReply,
   loadArrays,
+  sheetReply,
+  sheetBytes,
 };
 use model::limits::MAX_CAPACITY;
 use model::reply::BinSizeReply;
@@ -30,6 +32,7 @@ use model::reply::PlacesReply;
 use model::reply::RelocationsReply;
 use model::reply::RoomReply;
 use model::reply::SaveReply;
+use model::reply::SheetReply;
 use model::reply::TableReply;
 use model::table::Header;
 
@@ -305,6 +308,25 @@ pub fn load(
         return refused_load(21);
     }
     file_load::loaded(bytes, capacity, tops, ends, blocks, adjustments)
+}
+
+// The rack sheet of a table, a line an interval, written to `buffer`.
+pub fn sheet(
+    header: Header,
+    tops: &[u32],
+    ends: &[u32],
+    blocks: &[u32],
+    adjustments: &[u32],
+    buffer: &mut [u8],
+) -> SheetReply
+    ensures { λ r. ⌜ r ≡ sheetReply header (given tops ends blocks adjustments) (now (buffer .entry)) ⌝ }
+    ensures { λ _. ⌜ now (buffer .exit) ≡ sheetBytes header (given tops ends blocks adjustments) (now (buffer .entry)) ⌝ }
+{
+    let refusal = soundness::check(header, tops, ends, blocks, adjustments);
+    if refusal != 0 {
+        return SheetReply { refusal, length: 0 };
+    }
+    sheet::printed(header, tops, ends, blocks, buffer)
 }
 
 fn refused_load(refusal: u32) -> LoadReply

@@ -10,7 +10,8 @@ use lib.ListN.{length, take, drop, getD, take-append-drop}
 use lib.Seq.{drop-drop}
 use borrow.Author.Tests.{le-leb, eqb-true, ne-eqb}
 use Rattle.model.specs.Basics.{if_then_else_, _and_}
-use Rattle.model.specs.Console.{text, inFront, wordsOf, same, digitsOnly, value, isNumber, command, read}
+use Rattle.model.specs.Decimal.{digitsOnly, value}
+use Rattle.model.specs.Console.{text, inFront, wordsOf, same, isNumber, command, read}
 use Rattle.model.specs.declared.command.Command.{Command}
 use Rattle.model.specs.declared.command.Command.the-variants.{Fresh, Grow, Where, At, Moves, Unreadable}
 use Rattle.model.proofs.Counts.{bit-cases, and-left, and-right}

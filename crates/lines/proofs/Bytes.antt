@@ -11,7 +11,8 @@ use lib.Seq.{drop-cons, drop-drop, take-add}
 use lib.Dec.{eqb}
 use borrow.Author.Tests.{leb-true}
 use Rattle.model.specs.Basics.{_and_}
-use Rattle.model.specs.Console.{text, same, digitsOnly, valueFrom, value}
+use Rattle.model.specs.Decimal.{digitsOnly, valueFrom, value}
+use Rattle.model.specs.Console.{text, same}
 use Rattle.model.proofs.Counts.{and-left, and-right, and-both}
 use Rattle.lines.specs.Words.{isDigit, bytesAt}
 

@@ -9,7 +9,8 @@ use native.Mathlib.Omega.{arith}
 use lib.ListN.{length, drop, getD}
 use borrow.Author.Tests.{leb-true, le-leb}
 use Rattle.model.specs.Basics.{if_then_else_, _and_}
-use Rattle.model.specs.Console.{digitsOnly, valueFrom, value, isNumber}
+use Rattle.model.specs.Decimal.{digitsOnly, valueFrom, value}
+use Rattle.model.specs.Console.{isNumber}
 use Rattle.model.proofs.Counts.{bit-cases, and-left, and-right, and-both}
 use Rattle.lines.specs.Words.{upTo, wordAt, numberAt, bytesAt}
 use Rattle.lines.specs.declared.Parsed.the-variants.{Number, Other}

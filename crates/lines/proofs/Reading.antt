@@ -8,7 +8,8 @@ use native.Mathlib.Omega.{arith}
 use lib.ListN.{length, take, drop, length-drop}
 use borrow.Author.Tests.{le-leb, lt-leb}
 use Rattle.model.specs.Basics.{if_then_else_, _and_}
-use Rattle.model.specs.Console.{text, wordsOf, same, value, isNumber, command, read}
+use Rattle.model.specs.Decimal.{value}
+use Rattle.model.specs.Console.{text, wordsOf, same, isNumber, command, read}
 use Rattle.model.specs.declared.command.Command.the-variants.{Where, Moves, Unreadable}
 use Rattle.model.proofs.Counts.{bit-cases}
 use Rattle.lines.specs.Words.{wordAt, numberAt, withTwo}

@@ -6,7 +6,8 @@ use mathlib.Core.List.{List, [], _∷_}
 use lib.ListN.{length, take, drop}
 use lib.Dec.{eqb, leb}
 use Rattle.model.specs.Basics.{if_then_else_, _and_}
-use Rattle.model.specs.Console.{text, same, value, isNumber, read}
+use Rattle.model.specs.Decimal.{value}
+use Rattle.model.specs.Console.{text, same, isNumber, read}
 use Rattle.model.specs.declared.command.Command.{Command}
 use Rattle.model.specs.declared.command.Command.the-variants.{Fresh, Grow, Where, At, Unreadable}
 use Rattle.lines.specs.declared.asked.Asked.{Asked}

@@ -3,7 +3,8 @@ ghost use Prim.Native.Nat.{_+_, _<_, _≤_};
 ghost use mathlib.Core.Path.{_≡_};
 ghost use mathlib.Core.Bool.{true};
 ghost use lib.ListN.{length};
-ghost use Rattle.model.specs.Console.{text as textOf, same, digitsOnly, value};
+ghost use Rattle.model.specs.Decimal.{digitsOnly, value};
+ghost use Rattle.model.specs.Console.{text as textOf, same};
 ghost use Rattle.lines.specs.Words.{isDigit, bytesAt, DigitsTo, NoDigits, AsksFor, AsksForNone, byAsked};
 
 // The bucket that a line asks for, and the place of the line feed behind it; or any other line.

@@ -6,7 +6,7 @@ use native.Mathlib.Nat.{add-zero, zero-add}
 use native.Mathlib.Numerals.{add-one}
 use native.Mathlib.Omega.{arith}
 use lib.ListN.{length, getD, take, drop, set, length-append}
-use lib.Seq.{length-take-le, take-suc, sets, sets-eq, length-sets}
+use lib.Seq.{length-take-le, take-suc, set-comm, sets, sets-eq, length-sets}
 use Rattle.model.specs.Basics.{from}
 use Rattle.model.specs.Table.{over}
 use Rattle.model.proofs.Loads.{from-next}
@@ -18,6 +18,22 @@ sets-more [] ys l o = ap (λ k. sets l k ys) (add-zero o)
 sets-more (x ∷ xs) ys l o =
     let next : o + suc (length xs) ≡ suc o + length xs = omega arith in
     ap (λ k. sets (sets (set l o x) (suc o) xs) k ys) next ∙ sets-more xs ys (set l o x) (suc o)
+
+-- an entry behind those stored may come first
+sets-behind
+    : (xs l : List ℕ) (o i v : ℕ) → o + length xs ≤ i → set (sets l o xs) i v ≡ sets (set l i v) o xs
+sets-behind [] l o i v h = refl
+sets-behind (x ∷ xs) l o i v h =
+    sets-behind xs (set l o x) (suc o) i v (omega arith)
+    ∙ ap (λ (m : List ℕ). sets m (suc o) xs) (set-comm l o i x v (λ e. omega arith))
+
+-- and so may others behind them
+pub sets-swap
+    : (xs ys l : List ℕ) (o i : ℕ) → o + length xs ≤ i → sets (sets l o xs) i ys ≡ sets (sets l i ys) o xs
+sets-swap xs [] l o i h = refl
+sets-swap xs (y ∷ ys) l o i h =
+    ap (λ (m : List ℕ). sets m (suc i) ys) (sets-behind xs l o i y h)
+    ∙ sets-swap xs ys (set l i y) o (suc i) (omega arith)
 
 -- entries stored from the first place on
 pub sets-over : (xs l : List ℕ) → length xs ≤ length l → sets l 0 xs ≡ over xs l

@@ -1,5 +1,6 @@
 pub mod Counts
 pub mod Mapped
+pub mod Decimals
 pub mod Dues
 pub mod Balances
 pub mod Rivals
@@ -37,3 +38,4 @@ pub mod Rows
 pub mod Pages
 pub mod Steps
 pub mod Entries
+pub mod Sheets

@@ -1,4 +1,4 @@
--- The ten calls: for each its tests in document 01's order, its whole reply, and what every lent list holds afterwards.
+-- The eleven calls: for each its tests in document 01's order, its whole reply, and what every lent list holds afterwards.
 -- A refusal replies with its number and zeros, and changes no list. Assumes nothing.
 use Prim.Native.Nat.{ℕ}
 use mathlib.Core.List.{List, [], _∷_, _++_}
@@ -41,6 +41,7 @@ use Rattle.model.specs.Expansion.{expanded, moved}
 use Rattle.model.specs.Relocations.{rows, page}
 use Rattle.model.specs.Room.{room}
 use Rattle.model.specs.Saved.{saved, savedLength, bufferShort, loadedHeader, loadedArrays, fileWrong}
+use Rattle.model.specs.Sheet.{sheet, sheetLength, sheetShort}
 use Rattle.model.specs.declared.table.Header.{Header}
 use Rattle.model.specs.declared.reply.TableReply.{TableReply}
 use Rattle.model.specs.declared.reply.RelocationsReply.{RelocationsReply}
@@ -51,6 +52,7 @@ use Rattle.model.specs.declared.reply.BinSizeReply.{BinSizeReply}
 use Rattle.model.specs.declared.reply.RoomReply.{RoomReply}
 use Rattle.model.specs.declared.reply.SaveReply.{SaveReply}
 use Rattle.model.specs.declared.reply.LoadReply.{LoadReply}
+use Rattle.model.specs.declared.reply.SheetReply.{SheetReply}
 
 -- what a call with refusal number r gives: a where it is accepted, b where it is refused
 unfoldable pub answer : {A : Type 0} → ℕ → A → A → A
@@ -252,3 +254,25 @@ loadReply f p out = loadAnswer (loadRefusal f p out) (loadedHeader f p)
 
 unfoldable pub loadArrays : List ℕ → ℕ → Arrays → Arrays
 loadArrays f p out = arraysAfter (loadRefusal f p out) (table (loadedHeader f p) (loadedArrays f p)) out
+
+-- sheet (rack sheet), into a buffer of bytes
+
+unfoldable pub sheetTests : Header → List ℕ → List Test
+sheetTests h buffer = (34, sheetShort h buffer) ∷ []
+
+unfoldable pub sheetRefusal : Header → Arrays → List ℕ → ℕ
+sheetRefusal h a buffer = first (tableTests h a ++ sheetTests h buffer)
+
+-- the reply where the refusal is r, and what the buffer holds then; t is the table
+unfoldable pub sheetAnswer : ℕ → Header → SheetReply
+sheetAnswer r h =
+    answer r (record { refusal = 0; length = sheetLength (h .«interval_count») }) (record { refusal = r; length = 0 })
+
+unfoldable pub sheetAfter : ℕ → Table → List ℕ → List ℕ
+sheetAfter r t buffer = answer r (over (sheet t) buffer) buffer
+
+unfoldable pub sheetReply : Header → Arrays → List ℕ → SheetReply
+sheetReply h a buffer = sheetAnswer (sheetRefusal h a buffer) h
+
+unfoldable pub sheetBytes : Header → Arrays → List ℕ → List ℕ
+sheetBytes h a buffer = sheetAfter (sheetRefusal h a buffer) (table h a) buffer

@@ -1,12 +1,13 @@
 -- Document 01, 'The program rackmap': its lines, what it prints, and a session. Text is a list of bytes. Assumes nothing.
-use Prim.Native.Nat.{ℕ, zero, suc, _+_, _-_, _*_, _/_, _%_}
+use Prim.Native.Nat.{ℕ}
 use Prim.Native.Char.{code}
 use Prim.Native.String.{String, [] as end-of-text, _∷_ as _before-text_}
 use mathlib.Core.Bool.{Bool, true, false, not}
 use mathlib.Core.List.{List, [], _∷_, _++_, map}
 use lib.ListN.{length}
-use lib.Dec.{leb, ltb, eqb}
+use lib.Dec.{leb, eqb}
 use Rattle.model.specs.Basics.{if_then_else_, _and_, joined}
+use Rattle.model.specs.Decimal.{digitsOnly, value, decimal}
 use Rattle.model.specs.Limits.{maxCapacity}
 use Rattle.model.specs.Table.{Table, sizes}
 use Rattle.model.specs.Search.{placeAt, foundAt}
@@ -48,18 +49,6 @@ same [] (d ∷ ds) = false
 same (c ∷ cs) [] = false
 same (c ∷ cs) (d ∷ ds) = eqb c d and same cs ds
 
-unfoldable pub digitsOnly : List ℕ → Bool
-digitsOnly [] = true
-digitsOnly (c ∷ cs) = leb 48 c and leb c 57 and digitsOnly cs
-
--- the value of a word's digits after v
-unfoldable pub valueFrom : ℕ → List ℕ → ℕ
-valueFrom v [] = v
-valueFrom v (c ∷ cs) = valueFrom (10 * v + (c - 48)) cs
-
-unfoldable pub value : List ℕ → ℕ
-value w = valueFrom 0 w
-
 -- a decimal number: one to ten digits, at most 4,294,967,295
 unfoldable pub isNumber : List ℕ → Bool
 isNumber w = leb 1 (length w) and leb (length w) 10 and digitsOnly w and leb (value w) 4_294_967_295
@@ -82,15 +71,6 @@ unfoldable pub read : List ℕ → Command
 read l = if leb (length l) 64 then command (wordsOf l) else Unreadable
 
 -- PRINTING
-
--- the digits of n, at most k of them, the highest first
-unfoldable pub digits : ℕ → ℕ → List ℕ
-digits zero n = []
-digits (suc k) n = (if ltb n 10 then [] else digits k (n / 10)) ++ ((48 + n % 10) ∷ [])
-
--- a 32-bit number in decimal
-unfoldable pub decimal : ℕ → List ℕ
-decimal n = digits 10 n
 
 -- a word and its numbers, with single blanks between, and a line feed
 unfoldable pub line : String → List ℕ → List ℕ

@@ -46,3 +46,8 @@ pub record TopsFormed (h : Header) (tops : List ℕ) : Type 0 where
   pub blocks : List ℕ
   pub adjustments : List ℕ
   pub formed : Formed h (arrays tops ends blocks adjustments)
+
+-- tops, ends and blocks of a formed table, for a function that reads no adjustments of it
+pub record SpansFormed (h : Header) (tops ends blocks : List ℕ) : Type 0 where
+  pub adjustments : List ℕ
+  pub formed : Formed h (arrays tops ends blocks adjustments)

@@ -1,5 +1,6 @@
 -- Document 01 as definitions, in its order. Each file is read beside the section that its first line names.
 pub mod Basics
+pub mod Decimal
 pub mod Limits
 pub mod Table
 pub mod Place
@@ -13,6 +14,7 @@ pub mod Expansion
 pub mod Relocations
 pub mod Room
 pub mod Saved
+pub mod Sheet
 pub mod Calls
 pub mod Console
 pub mod Balance
@@ -21,3 +23,4 @@ pub mod Figures
 pub mod Claims
 pub mod TableClaims
 pub mod ExpansionClaims
+pub mod SheetClaims

@@ -2,6 +2,7 @@
 ghost use Rattle.model.specs.Claims.{Claims};
 ghost use Rattle.model.specs.TableClaims.{TableClaims};
 ghost use Rattle.model.specs.ExpansionClaims.{ExpansionClaims};
+ghost use Rattle.model.specs.SheetClaims.{SheetClaims};
 
 pub mod answer;
 pub mod command;
@@ -24,4 +25,9 @@ pub fn table_claims()
 // What is proved of growth, and demand 3 (specs/ExpansionClaims.antt).
 pub fn expansion_claims()
     ensures { λ _. ⌜ ExpansionClaims ⌝ }
+{}
+
+// What is proved of the rack sheet (specs/SheetClaims.antt).
+pub fn sheet_claims()
+    ensures { λ _. ⌜ SheetClaims ⌝ }
 {}

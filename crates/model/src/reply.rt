@@ -1,4 +1,4 @@
-// The replies of the ten calls. `refusal` is document 01's number, or 0; in a refusal every other number is 0.
+// The replies of the eleven calls. `refusal` is document 01's number, or 0; in a refusal every other number is 0.
 use crate::table::Header;
 
 // initial and expand: the buckets moved, and the header of the table written
@@ -60,4 +60,11 @@ pub struct SaveReply {
 pub struct LoadReply {
     pub refusal: u32,
     pub header: Header,
+}
+
+// sheet: the bytes written
+#[repr(C)]
+pub struct SheetReply {
+    pub refusal: u32,
+    pub length: u32,
 }

@@ -1,5 +1,2 @@
-pub mod Decimal
 pub mod Stores
-pub mod Leading
-pub mod Lanes
 pub mod Lines

@@ -6,10 +6,11 @@ use mathlib.Core.List.{List, [], _∷_, _++_, map, map-append, append-nil, appen
 use native.Mathlib.Omega.{arith}
 use lib.ListN.{length, length-append}
 use Rattle.model.specs.Basics.{joined}
-use Rattle.model.specs.Console.{text, decimal, line}
+use Rattle.model.specs.Decimal.{decimal}
+use Rattle.model.specs.Console.{text, line}
 use Rattle.model.proofs.Rows.{joined-append}
 use Rattle.print.specs.Numbers.{moveRoom, numbers, lineOf}
-use Rattle.print.proofs.Decimal.{decimal-short}
+use Rattle.model.proofs.Decimals.{decimal-short}
 
 numbers-append : (ms ns : List ℕ) → numbers (ms ++ ns) ≡ numbers ms ++ numbers ns
 unfolding numbers

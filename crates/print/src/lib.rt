@@ -1,9 +1,7 @@
 // The program's printed lines: document 01, 'The program rackmap'. Each is a word, its numbers and a line feed.
 // Every function writes its text over the bytes from `at` on, and answers the place behind it.
-mod number;
-
-use number::put_number;
-use number::put_small;
+use decimal::put_number;
+use decimal::put_small;
 ghost use mathlib.Core.List.{[], _∷_};
 ghost use mathlib.Core.Path.{_≡_};
 ghost use Prim.Native.Nat.{_+_, _≤_};

@@ -5,10 +5,10 @@ use native.Mathlib.Omega.{arith}
 use lib.ListN.{length}
 use lib.Seq.{length-sets}
 use borrow.Author.Needs.{needs}
-use Rattle.model.specs.Console.{decimal}
+use Rattle.model.specs.Decimal.{decimal}
 use Rattle.model.proofs.Entries.{Put, put-none, put-length, put-more}
 use Rattle.print.specs.Numbers.{numbers}
-use Rattle.print.proofs.Decimal.{decimal-short}
+use Rattle.model.proofs.Decimals.{decimal-short}
 use Rattle.print.proofs.Lines.{numbers-both}
 use Rattle.print.proofs.put_both.Statement.{statement}
 use Rattle.print.proofs.put_both.Tie as tie

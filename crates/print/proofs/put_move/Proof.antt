@@ -6,10 +6,11 @@ use native.Mathlib.Omega.{arith}
 use lib.ListN.{length, length-append}
 use lib.Seq.{length-sets}
 use borrow.Author.Needs.{needs}
-use Rattle.model.specs.Console.{text, decimal, line}
+use Rattle.model.specs.Decimal.{decimal}
+use Rattle.model.specs.Console.{text, line}
 use Rattle.model.proofs.Entries.{Put, put-none, put-length, put-more}
 use Rattle.print.specs.Numbers.{numbers, lineOf}
-use Rattle.print.proofs.Decimal.{decimal-short}
+use Rattle.model.proofs.Decimals.{decimal-short}
 use Rattle.print.proofs.Lines.{numbers-short, line-five}
 use Rattle.print.proofs.put_move.Statement.{statement}
 use Rattle.print.proofs.put_move.Tie as tie

@@ -1,0 +1,4 @@
+pub mod Pairs
+pub mod Leading
+pub mod Lanes
+pub mod Fields

@@ -1,0 +1,168 @@
+-- Laws of the parts of a sheet's line, and of lines stored. Assumes nothing.
+use Prim.Native.Nat.{ℕ, zero, suc, _+_, _-_, _*_, _≤_, _<_}
+use mathlib.Core.Path.{_≡_, refl, sym, _∙_, ap, subst}
+use mathlib.Core.List.{List, [], _∷_, _++_, append-nil, append-assoc}
+use native.Mathlib.Nat.{add-zero, zero-add, mul-suc}
+use native.Mathlib.Numerals.{add-one}
+use native.Mathlib.Omega.{arith}
+use lib.ListN.{length, getD, take, drop, length-append, length-drop}
+use lib.Seq.{take-suc, take-at, drop-append-add, getD-drop, sets, length-sets}
+use Rattle.model.specs.Basics.{from, joined, before}
+use Rattle.model.specs.Table.{Arrays, arrays, table, over, firstBin, blockBins}
+use Rattle.model.specs.Limits.{maxBuckets, maxBins}
+use Rattle.model.specs.Lent.{SpansFormed}
+use Rattle.model.specs.Sound.{Formed}
+use Rattle.model.specs.Sheet.{field, sheetLine, sheet, sheetLength}
+use Rattle.model.specs.declared.table.Header.{Header}
+use Rattle.model.proofs.Tables.{from-append}
+use Rattle.model.proofs.Rows.{joined-append, end-within}
+use Rattle.model.proofs.Entries.{sets-over, Put, put-length, put-more, put-over}
+use Rattle.model.proofs.Sheets.{field-length, parts-length, lentLine, sheet-lent, top-within}
+use Rattle.sheet.specs.Lines.{headOf, tailOf, tailsOf}
+
+pub head-length : (start end : ℕ) → length (headOf start end) ≡ 20
+unfolding headOf
+head-length start end =
+    omega (arith, length-append (field start) (field (end - 1)), field-length start, field-length (end - 1))
+
+pub tail-length : (tops : List ℕ) (j : ℕ) → length (tailOf tops j) ≡ 31
+unfolding tailOf
+tail-length tops j =
+    let f = firstBin tops j in
+    let d = blockBins tops j in
+    omega (
+      arith,
+      length-append (field j) (field f ++ (field d ++ (10 ∷ []))),
+      length-append (field f) (field d ++ (10 ∷ [])),
+      length-append (field d) (10 ∷ []),
+      field-length j,
+      field-length f,
+      field-length d,
+    )
+
+pub regrouped : (w x y z : List ℕ) → w ++ x ++ y ++ z ≡ w ++ (x ++ (y ++ z))
+regrouped w x y z = simp append-assoc
+
+-- a line is its head and its tail
+pub line-parts
+    : (a : Arrays) (i : ℕ) → headOf (before (a .ends) i) (getD (a .ends) i 0) ++ tailOf (a .tops) (getD (a .blocks) i 0) ≡ lentLine a i
+unfolding headOf tailOf sheetLine joined firstBin blockBins
+line-parts a i = simp (append-assoc, append-nil)
+
+-- one entry more of those from place f on
+pub taken-next
+    : (xs : List ℕ) (f i : ℕ) → f + i < length xs → take (i + 1) (drop f xs) ≡ take i (drop f xs) ++ (getD xs (f + i) 0 ∷ [])
+taken-next xs f i l =
+    rw (add-one i)
+    (take-suc (drop f xs) i 0 (omega (arith, length-drop f xs)) ∙ ap (λ v. take i (drop f xs) ++ (v ∷ [])) (getD-drop f xs i 0))
+
+-- entry j of lists of m entries, one after the other
+pub part-at
+    : (g : ℕ → List ℕ) (m : ℕ) → ((i : ℕ) → length (g i) ≡ m) → (i n j : ℕ) (rest : List ℕ) → j < n
+    → take m (drop (m * j) (joined (from g i n) ++ rest)) ≡ g (i + j)
+unfolding from joined
+part-at g m e i zero j rest l = absurd (omega arith)
+part-at g m e i (suc n) zero rest l =
+    let none : m * 0 ≡ 0 = omega arith in
+    rw (none, add-zero i) (ap (take m) (append-assoc (g i) (joined (from g (suc i) n)) rest) ∙ take-at (g i) _ m (e i))
+part-at g m e i (suc n) (suc j) rest l =
+    let on : m * suc j ≡ length (g i) + m * j = omega (arith, e i, mul-suc m j) in
+    let next : suc i + j ≡ i + suc j = omega arith in
+    rw on
+    (ap (λ (xs : List ℕ). take m (drop (length (g i) + m * j) xs)) (append-assoc (g i) (joined (from g (suc i) n)) rest)
+    ∙ ap (take m) (drop-append-add (g i) (joined (from g (suc i) n) ++ rest) (m * j))
+    ∙ part-at g m e (suc i) n j rest (omega arith)
+    ∙ ap g next)
+
+-- LISTS ONE AFTER THE OTHER, STORED
+
+-- one more of them
+pub joined-next : (g : ℕ → List ℕ) (i : ℕ) → joined (from g 0 (i + 1)) ≡ joined (from g 0 i) ++ g i
+unfolding from joined
+joined-next g i =
+    ap joined (sym (from-append g 0 i 1))
+    ∙ joined-append (from g 0 i) (from g (0 + i) 1)
+    ∙ ap (λ (l : List ℕ). joined (from g 0 i) ++ l) (append-nil (g (0 + i)) ∙ ap g (zero-add i))
+
+-- a line of the sheet: its head, then its tail
+pub line-stored
+    : (a : Arrays) (i : ℕ) {old out next done : List ℕ} → Put 0 (51 * i) (joined (from (lentLine a) 0 i)) old out
+    → next ≡ sets out (51 * i) (headOf (before (a .ends) i) (getD (a .ends) i 0))
+    → done ≡ sets next (51 * i + 20) (tailOf (a .tops) (getD (a .blocks) i 0))
+    → Put 0 (51 * (i + 1)) (joined (from (lentLine a) 0 (i + 1))) old done
+line-stored a i {old} {out} {next} {done} p e f =
+    let head = headOf (before (a .ends) i) (getD (a .ends) i 0) in
+    let tail = tailOf (a .tops) (getD (a .blocks) i 0) in
+    let first = put-more p {o′ = 51 * i + 20} head e (omega (arith, head-length (before (a .ends) i) (getD (a .ends) i 0))) in
+    let both = put-more first {o′ = 51 * (i + 1)} tail f (omega (arith, tail-length (a .tops) (getD (a .blocks) i 0))) in
+    subst (λ (l : List ℕ). Put 0 (51 * (i + 1)) l old done)
+    (append-assoc (joined (from (lentLine a) 0 i)) head tail
+    ∙ ap (λ (l : List ℕ). joined (from (lentLine a) 0 i) ++ l) (line-parts a i)
+    ∙ sym (joined-next (lentLine a) i))
+    both
+
+-- all of them are the sheet
+pub sheet-stored
+    : (h : Header) (t e b : List ℕ) (s : SpansFormed h t e b) {old out : List ℕ} → sheetLength (h .«interval_count») ≤ length old
+    → Put 0 (51 * h .«interval_count») (joined (from (lentLine (arrays t e b [])) 0 (h .«interval_count»))) old out
+    → out ≡ over (sheet (table h (arrays t e b []))) old
+unfolding sheetLength
+sheet-stored h t e b s {old} room p =
+    put-over p room ∙ ap (λ (l : List ℕ). over l old) (sym (sheet-lent h (arrays t e b []) (s .formed .blocksBelow)))
+
+-- there is room for another line: for its head, and behind that for its tail
+pub room-for
+    : (k : ℕ) {new old out : List ℕ} → sheetLength k ≤ length old → (i : ℕ) → Put 0 (51 * i) new old out
+    → i < k → (51 * i + 20 ≤ length out) × (51 * i + 51 ≤ length out)
+unfolding sheetLength
+room-for k room i p l = (omega (arith, put-length p), omega (arith, put-length p))
+
+pub room-after
+    : (k : ℕ) {new old out next : List ℕ} → sheetLength k ≤ length old → (i : ℕ) → Put 0 (51 * i) new old out → i < k
+    → (o : ℕ) (head : List ℕ) → next ≡ sets out o head → 51 * i + 20 + 31 ≤ length next
+room-after k {out = out} room i p l o head e =
+    omega (arith, ap length e, length-sets out o head, room-for k room i p l .1)
+
+-- one more tail
+pub tail-stored
+    : (tops : List ℕ) (j : ℕ) {old out done : List ℕ} → Put 0 (31 * j) (tailsOf tops j) old out
+    → done ≡ sets out (31 * j) (tailOf tops j) → Put 0 (31 * (j + 1)) (tailsOf tops (j + 1)) old done
+unfolding tailsOf
+tail-stored tops j p e =
+    rw (joined-next (tailOf tops) j) (put-more p (tailOf tops j) e (omega (arith, tail-length tops j)))
+
+-- read where they all are
+pub tail-at
+    : (tops own tails : List ℕ) (n j : ℕ) → tails ≡ sets own 0 (tailsOf tops n) → 31 * n ≤ length own → j < n
+    → (take 31 (drop (31 * j) tails) ≡ tailOf tops j) × (31 * j + 31 ≤ length tails)
+unfolding tailsOf over
+tail-at tops own tails n j e room l =
+    let size = parts-length (tailOf tops) 31 (tail-length tops) 0 n in
+    let whole = e ∙ sets-over (tailsOf tops n) own (omega (arith, size)) in (
+      ap (λ (xs : List ℕ). take 31 (drop (31 * j) xs)) whole ∙ read (tailsOf tops n) refl ∙ ap (tailOf tops) (zero-add j),
+      omega (arith, ap length e, length-sets own 0 (tailsOf tops n)),
+    )
+  where
+    read : (xs : List ℕ) → xs ≡ joined (from (tailOf tops) 0 n) → take 31 (drop (31 * j) (over xs own)) ≡ tailOf tops (0 + j)
+    read xs e =
+        ap (λ (ys : List ℕ). take 31 (drop (31 * j) (over ys own))) e
+        ∙ part-at (tailOf tops) 31 (tail-length tops) 0 n j (drop (length (joined (from (tailOf tops) 0 n))) own) l
+
+-- WHAT A FORMED TABLE HAS
+
+module _ {h : Header} {t e b : List ℕ} (s : SpansFormed h t e b) where
+  pub head-ready : (i : ℕ) → i < h .«interval_count» → (before e i < getD e i 0) × (getD e i 0 ≤ maxBuckets)
+  head-ready i l = (s .formed .endsRise i l, omega (arith, end-within h _ (s .formed) i l, s .formed .bucketLimit))
+
+  pub block-below : (i : ℕ) → i < h .«interval_count» → getD b i 0 < h .«block_count»
+  block-below i l = s .formed .blocksBelow i l
+
+pub tail-ready
+    : (h : Header) (a : Arrays) → Formed h a → (j : ℕ) → j < h .«block_count»
+    → (j < length (a .tops)) × (j < maxBins) × (before (a .tops) j ≤ getD (a .tops) j 0) × (getD (a .tops) j 0 ≤ maxBins)
+tail-ready h a s j l = (
+  omega (arith, s .topsLong),
+  omega (arith, s .blockLimit),
+  omega (arith, s .topsRise j l),
+  top-within h a s j l,
+)

@@ -1,0 +1,18 @@
+-- The parts of a sheet's line. Assumes nothing.
+use Prim.Native.Nat.{ℕ, _-_}
+use mathlib.Core.List.{List, [], _∷_, _++_}
+use Rattle.model.specs.Basics.{from, joined}
+use Rattle.model.specs.Table.{firstBin, blockBins}
+use Rattle.model.specs.Sheet.{field}
+
+-- the fields of an interval from bucket `start` up to bucket `end`: its first bucket and its last
+unfoldable pub headOf : ℕ → ℕ → List ℕ
+headOf start end = field start ++ field (end - 1)
+
+-- the fields of its block j, and the line feed
+unfoldable pub tailOf : List ℕ → ℕ → List ℕ
+tailOf tops j = field j ++ (field (firstBin tops j) ++ (field (blockBins tops j) ++ (10 ∷ [])))
+
+-- the tails of the first n blocks
+unfoldable pub tailsOf : List ℕ → ℕ → List ℕ
+tailsOf tops n = joined (from (tailOf tops) 0 n)
