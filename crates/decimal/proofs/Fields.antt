@@ -2,7 +2,7 @@
 use Prim.Native.Nat.{ℕ, zero, suc, _+_, _-_, _/_, _%_, _≤_, _<_}
 use mathlib.Core.Path.{_≡_, refl, sym, _∙_, ap, subst}
 use mathlib.Core.Logic.{inr, ⊎-elim}
-use mathlib.Core.List.{List, [], _∷_, _++_, append-assoc}
+use mathlib.Core.List.{List, [], _∷_, _++_, append-nil, append-assoc}
 use native.Mathlib.Nat.{add-zero, zero-add}
 use native.Mathlib.Omega.{arith}
 use lib.ListN.{length, drop, replicate, set, length-append, length-set, length-replicate, replicate-append-replicate}
@@ -240,3 +240,76 @@ pair-before n at old out out′ l u e f =
     ∙ sets-more (decimal (n / 100)) (pairOf (n % 100)) old (at + 8 - len)
     ∙ ap (sets old (at + 8 - len)) (sym whole)
     ∙ ap (λ k. sets old k (decimal n)) start
+
+-- A NUMBER'S LAST DIGITS
+
+-- `out` is `old` with the last digits of n up to place `stop`, from place `end` on; `rest` has those before them
+pub record Ends (n stop end rest : ℕ) (old out : List ℕ) : Type 0 where
+  pub last : List ℕ
+  pub digits : decimal n ≡ decimal rest ++ last
+  pub place : end + length last ≡ stop
+  pub holds : out ≡ sets old end last
+
+-- none yet
+pub ends-none : (n stop : ℕ) {old out : List ℕ} → out ≡ old → Ends n stop stop n old out
+ends-none n stop e = record { last = []; digits = sym (append-nil (decimal n)); place = add-zero stop; holds = e }
+
+module _ {n stop end rest : ℕ} {old out : List ℕ} (e : Ends n stop end rest old out) where
+  -- those left fit before them
+  pub ends-room : 10 ≤ stop → length (decimal rest) ≤ end
+  ends-room ten =
+      omega (
+        arith,
+        decimal-short n,
+        ap length (e .digits),
+        length-append (decimal rest) (e .last),
+        e .place,
+      )
+
+  -- one, and two from 10 on
+  pub ends-one : 10 ≤ stop → 1 ≤ end
+  ends-one ten = omega (arith, ends-room ten, decimal-some rest)
+
+  pub ends-two : 10 ≤ stop → 10 ≤ rest → 2 ≤ end
+  ends-two ten l = omega (arith, ends-room ten, decimal-many 1 rest (omega arith) l)
+
+  pub ends-within : end ≤ stop
+  ends-within = omega (arith, e .place)
+
+  pub ends-length : length out ≡ length old
+  ends-length = ap length (e .holds) ∙ length-sets old end (e .last)
+
+  -- more in front of them, at place i
+  in-front : (i : ℕ) (more out′ : List ℕ) → i + length more ≡ end → out′ ≡ sets out i more → out′ ≡ sets old i (more ++ e .last)
+  in-front i more out′ seam f =
+      f
+      ∙ ap (λ (l : List ℕ). sets l i more) (e .holds)
+      ∙ sym (sets-swap more (e .last) old i end (omega (arith, seam)))
+      ∙ ap (λ k. sets (sets old i more) k (e .last)) (sym seam)
+      ∙ sets-more more (e .last) old i
+
+  -- two more
+  pub ends-pair
+      : (out′ : List ℕ) → 100 ≤ rest → rest < 10_000_000_000 → 2 ≤ end → out′ ≡ sets out (end - 2) (pairOf (rest % 100))
+      → Ends n stop (end - 2) (rest / 100) old out′
+  ends-pair out′ l u two f =
+      record {
+        last = pairOf (rest % 100) ++ e .last;
+        digits =
+            e .digits
+            ∙ ap (λ (ds : List ℕ). ds ++ e .last) (decimal-pair rest u l)
+            ∙ append-assoc (decimal (rest / 100)) (pairOf (rest % 100)) (e .last);
+        place = omega (arith, e .place);
+        holds = in-front (end - 2) (pairOf (rest % 100)) out′ (omega arith) f;
+      }
+
+  -- all that are left
+  pub ends-all
+      : (out′ : List ℕ) → length (decimal rest) ≤ end → out′ ≡ sets out (end - length (decimal rest)) (decimal rest)
+      → out′ ≡ sets old (stop - length (decimal n)) (decimal n)
+  ends-all out′ l f =
+      let size = ap length (e .digits) ∙ length-append (decimal rest) (e .last) in
+      let place : end - length (decimal rest) ≡ stop - length (decimal n) = omega (arith, size, e .place) in
+      in-front (end - length (decimal rest)) (decimal rest) out′ (omega (arith, l)) f
+      ∙ ap (sets old (end - length (decimal rest))) (sym (e .digits))
+      ∙ ap (λ k. sets old k (decimal n)) place

@@ -1,10 +1,21 @@
 -- The parts in which a number's digits are stored. Assumes nothing.
 use Prim.Native.Nat.{ℕ, zero, suc, _+_, _*_, _/_, _%_}
+use mathlib.Core.Path.{_≡_}
 use mathlib.Core.List.{List, [], _∷_, _++_}
+use lib.ListN.{take}
+use Rattle.model.specs.Basics.{from, joined}
 
 -- the two digits of a number below 100, the tens first
 abbrev pub pairOf : ℕ → List ℕ
 pairOf p = (48 + p / 10) ∷ (48 + p % 10) ∷ []
+
+-- the pairs of all numbers below n, one after the other
+unfoldable pub pairsTo : ℕ → List ℕ
+pairsTo n = joined (from pairOf 0 n)
+
+-- a list that begins with those of the numbers below 100
+abbrev pub HoldsPairs : List ℕ → Type 0
+HoldsPairs xs = take 200 xs ≡ pairsTo 100
 
 -- the four digits of a number below 10,000
 abbrev pub fourOf : ℕ → List ℕ

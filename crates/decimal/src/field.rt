@@ -7,6 +7,7 @@ ghost use lib.ListN.{length};
 ghost use lib.Seq.{sets};
 ghost use Rattle.model.specs.Decimal.{decimal};
 ghost use Rattle.model.specs.Sheet.{blanks, field};
+ghost use Rattle.decimal.specs.Parts.{pairOf, pairsTo, HoldsPairs};
 
 // What stands before a number.
 const BLANK: u8 = b' ';
@@ -102,4 +103,52 @@ pub fn put_field(n: u32, out: &mut [u8], at: usize)
         return;
     }
     put_nine(n, out, at);
+}
+
+// A TABLE OF ALL PAIRS, for whoever writes many fields: two bytes copied for two digits.
+
+// Writes the two digits of each number below 100.
+pub fn put_pairs(out: &mut [u8])
+    requires { ⌜ 200 ≤ length (now out) ⌝ }
+    ensures { λ _. ⌜ now (out .exit) ≡ sets (now (out .entry)) 0 (pairsTo 100) ⌝ }
+{
+    let mut n: u32 = 0;
+    while n < 100 {
+        put_pair(n, out, 2 * n as usize);
+        n += 1;
+    }
+}
+
+// Copies the two digits of a number below 100.
+fn copy_pair(pairs: &[u8], n: u32, out: &mut [u8], at: usize)
+    requires pairs { ⌜ HoldsPairs (now pairs) ⌝ }
+    requires below { ⌜ n < 100 ⌝ }
+    requires room { ⌜ at + 2 ≤ length (now out) ⌝ }
+    ensures { λ _. ⌜ now (out .exit) ≡ sets (now (out .entry)) at (pairOf n) ⌝ }
+{
+    let tens = pairs[2 * n as usize];
+    let ones = pairs[2 * n as usize + 1];
+    out[at] = tens;
+    out[at + 1] = ones;
+}
+
+// A field, two digits at a time from the last.
+pub fn copy_field(pairs: &[u8], n: u32, out: &mut [u8], at: usize)
+    requires pairs { ⌜ HoldsPairs (now pairs) ⌝ }
+    requires room { ⌜ at + 10 ≤ length (now out) ⌝ }
+    ensures { λ _. ⌜ now (out .exit) ≡ sets (now (out .entry)) at (field n) ⌝ }
+{
+    put_blanks(out, at);
+    let mut rest = n;
+    let mut end = at + 10;
+    while 100 <= rest {
+        end -= 2;
+        copy_pair(pairs, rest % 100, out, end);
+        rest /= 100;
+    }
+    if rest < 10 {
+        out[end - 1] = (48 + rest) as u8;
+        return;
+    }
+    copy_pair(pairs, rest, out, end - 2);
 }

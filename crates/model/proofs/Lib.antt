@@ -38,4 +38,5 @@ pub mod Rows
 pub mod Pages
 pub mod Steps
 pub mod Entries
+pub mod Parts
 pub mod Sheets

@@ -4,7 +4,7 @@ use mathlib.Core.Path.{_≡_, refl, sym, _∙_, ap, ap₂}
 use mathlib.Core.Logic.{⊎-elim}
 use mathlib.Core.Bool.{true}
 use mathlib.Core.List.{List, [], _∷_, _++_, map, append-nil, append-assoc}
-use native.Mathlib.Nat.{zero-add, le-refl, le-of-lt, mod-lt, mul-suc}
+use native.Mathlib.Nat.{zero-add, le-refl, le-of-lt, mod-lt}
 use native.Mathlib.Omega.{arith}
 use lib.ListN.{length, getD, take, length-append, length-replicate, getD-replicate, List·getD-append}
 use lib.Seq.{take-at, drop-at, getD-append-add, getD-take, take-length}
@@ -37,6 +37,7 @@ use Rattle.model.specs.declared.reply.SheetReply.{SheetReply}
 use Rattle.model.proofs.Counts.{below-or}
 use Rattle.model.proofs.Decimals.{decimal-short, decimal-few, decimal-some, decimal-many, decimal-only, decimal-value, only-at}
 use Rattle.model.proofs.Mapped.{mapped-length}
+use Rattle.model.proofs.Parts.{parts-length}
 use Rattle.model.proofs.Intervals.{before-mono, block-at}
 use Rattle.model.proofs.Refusals.{first-after, first-pass, first-none, accepted}
 use Rattle.model.proofs.Tables.{length-from, getD-from, from-ext, map-from, take-over, before-same, lentInterval}
@@ -189,14 +190,6 @@ pub line-length : (ns : List ℕ) → length ns ≡ 5 → length (sheetLine ns) 
 unfolding sheetLine
 line-length ns five =
     omega (arith, length-append (joined (map field ns)) (10 ∷ []), mapped-length field 10 field-length ns)
-
--- lists of m entries each, one after the other
-pub parts-length
-    : (g : ℕ → List ℕ) (m : ℕ) → ((i : ℕ) → length (g i) ≡ m) → (i k : ℕ) → length (joined (from g i k)) ≡ m * k
-unfolding from joined
-parts-length g m e i zero = omega arith
-parts-length g m e i (suc k) =
-    omega (arith, length-append (g i) (joined (from g (suc i) k)), e i, parts-length g m e (suc i) k, mul-suc m k)
 
 -- A LENT TABLE
 

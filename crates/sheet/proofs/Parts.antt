@@ -14,10 +14,10 @@ use Rattle.model.specs.Lent.{SpansFormed}
 use Rattle.model.specs.Sound.{Formed}
 use Rattle.model.specs.Sheet.{field, sheetLine, sheet, sheetLength}
 use Rattle.model.specs.declared.table.Header.{Header}
-use Rattle.model.proofs.Tables.{from-append}
-use Rattle.model.proofs.Rows.{joined-append, end-within}
+use Rattle.model.proofs.Parts.{parts-length, part-at, joined-next}
+use Rattle.model.proofs.Rows.{end-within}
 use Rattle.model.proofs.Entries.{sets-over, Put, put-length, put-more, put-over}
-use Rattle.model.proofs.Sheets.{field-length, parts-length, lentLine, sheet-lent, top-within}
+use Rattle.model.proofs.Sheets.{field-length, lentLine, sheet-lent, top-within}
 use Rattle.sheet.specs.Lines.{headOf, tailOf, tailsOf}
 
 pub head-length : (start end : ℕ) → length (headOf start end) ≡ 20
@@ -56,33 +56,7 @@ taken-next xs f i l =
     rw (add-one i)
     (take-suc (drop f xs) i 0 (omega (arith, length-drop f xs)) ∙ ap (λ v. take i (drop f xs) ++ (v ∷ [])) (getD-drop f xs i 0))
 
--- entry j of lists of m entries, one after the other
-pub part-at
-    : (g : ℕ → List ℕ) (m : ℕ) → ((i : ℕ) → length (g i) ≡ m) → (i n j : ℕ) (rest : List ℕ) → j < n
-    → take m (drop (m * j) (joined (from g i n) ++ rest)) ≡ g (i + j)
-unfolding from joined
-part-at g m e i zero j rest l = absurd (omega arith)
-part-at g m e i (suc n) zero rest l =
-    let none : m * 0 ≡ 0 = omega arith in
-    rw (none, add-zero i) (ap (take m) (append-assoc (g i) (joined (from g (suc i) n)) rest) ∙ take-at (g i) _ m (e i))
-part-at g m e i (suc n) (suc j) rest l =
-    let on : m * suc j ≡ length (g i) + m * j = omega (arith, e i, mul-suc m j) in
-    let next : suc i + j ≡ i + suc j = omega arith in
-    rw on
-    (ap (λ (xs : List ℕ). take m (drop (length (g i) + m * j) xs)) (append-assoc (g i) (joined (from g (suc i) n)) rest)
-    ∙ ap (take m) (drop-append-add (g i) (joined (from g (suc i) n) ++ rest) (m * j))
-    ∙ part-at g m e (suc i) n j rest (omega arith)
-    ∙ ap g next)
-
--- LISTS ONE AFTER THE OTHER, STORED
-
--- one more of them
-pub joined-next : (g : ℕ → List ℕ) (i : ℕ) → joined (from g 0 (i + 1)) ≡ joined (from g 0 i) ++ g i
-unfolding from joined
-joined-next g i =
-    ap joined (sym (from-append g 0 i 1))
-    ∙ joined-append (from g 0 i) (from g (0 + i) 1)
-    ∙ ap (λ (l : List ℕ). joined (from g 0 i) ++ l) (append-nil (g (0 + i)) ∙ ap g (zero-add i))
+-- LINES AND TAILS, STORED
 
 -- a line of the sheet: its head, then its tail
 pub line-stored
@@ -122,14 +96,6 @@ pub room-after
     → (o : ℕ) (head : List ℕ) → next ≡ sets out o head → 51 * i + 20 + 31 ≤ length next
 room-after k {out = out} room i p l o head e =
     omega (arith, ap length e, length-sets out o head, room-for k room i p l .1)
-
--- one more tail
-pub tail-stored
-    : (tops : List ℕ) (j : ℕ) {old out done : List ℕ} → Put 0 (31 * j) (tailsOf tops j) old out
-    → done ≡ sets out (31 * j) (tailOf tops j) → Put 0 (31 * (j + 1)) (tailsOf tops (j + 1)) old done
-unfolding tailsOf
-tail-stored tops j p e =
-    rw (joined-next (tailOf tops) j) (put-more p (tailOf tops j) e (omega (arith, tail-length tops j)))
 
 -- read where they all are
 pub tail-at

@@ -1,6 +1,8 @@
 // The rack sheet: document 02, S-4. A line is the two fields of an interval, its first bucket and its last, and the three of its
 // block with a line feed, here called the line's head and its tail.
+use decimal::field::copy_field;
 use decimal::field::put_field;
+use decimal::field::put_pairs;
 use model::reply::SheetReply;
 use model::table::Header;
 use table::before;
@@ -16,6 +18,7 @@ ghost use Rattle.model.specs.Refusal.{first};
 ghost use Rattle.model.specs.Table.{arrays, table, over};
 ghost use Rattle.model.specs.Sheet.{sheet as sheetOf, sheetLength};
 ghost use Rattle.model.specs.Calls.{sheetTests, sheetAnswer, sheetAfter};
+ghost use Rattle.decimal.specs.Parts.{HoldsPairs};
 ghost use Rattle.sheet.specs.Lines.{headOf, tailOf, tailsOf};
 
 // The bytes of a line, of its head and of its tail.
@@ -25,8 +28,10 @@ const HEAD: usize = 20;
 
 const TAIL: usize = 31;
 
-// The tails of the most blocks.
+// The tails of the most blocks, and all pairs of digits.
 const TAILS: usize = 2_015;
+
+const PAIRS: usize = 200;
 
 // For so many intervals it pays to write each block's tail once.
 const MANY: u32 = 128;
@@ -38,6 +43,16 @@ fn put_head(start: u32, end: u32, out: &mut [u8], at: usize)
 {
     put_field(start, out, at);
     put_field(end - 1, out, at + 10);
+}
+
+// The same by a table of all pairs of digits.
+fn copy_head(pairs: &[u8], start: u32, end: u32, out: &mut [u8], at: usize)
+    requires pairs { ⌜ HoldsPairs (now pairs) ⌝ }
+    requires room { ⌜ (start < end) × (at + 20 ≤ length (now out)) ⌝ }
+    ensures { λ _. ⌜ now (out .exit) ≡ sets (now (out .entry)) at (headOf start end) ⌝ }
+{
+    copy_field(pairs, start, out, at);
+    copy_field(pairs, end - 1, out, at + 10);
 }
 
 // The tail of a line of a block.
@@ -102,7 +117,7 @@ fn write_few(h: Header, tops: &[u32], ends: &[u32], blocks: &[u32], out: &mut [u
     }
 }
 
-// The sheet of many, with each tail copied.
+// The sheet of many, with pairs of digits and tails copied.
 fn write_many(h: Header, tops: &[u32], ends: &[u32], blocks: &[u32], out: &mut [u8])
     requires formed { ⌜ SpansFormed h (now tops) (now ends) (now blocks) ⌝ }
     requires room { ⌜ sheetLength (h .«interval_count») ≤ length (now out) ⌝ }
@@ -111,6 +126,8 @@ fn write_many(h: Header, tops: &[u32], ends: &[u32], blocks: &[u32], out: &mut [
         now (out .exit) ≡ over (sheetOf (table h (arrays (now (tops .entry)) (now (ends .entry)) (now (blocks .entry)) []))) (now (out .entry))
         ⌝ }
 {
+    let mut pairs = [0u8; PAIRS];
+    put_pairs(&mut pairs);
     let mut tails = [0u8; TAILS];
     write_tails(h, tops, &mut tails);
     let count = h.interval_count as usize;
@@ -118,7 +135,7 @@ fn write_many(h: Header, tops: &[u32], ends: &[u32], blocks: &[u32], out: &mut [
     let mut i: usize = 0;
     while i < count {
         let end = ends[i];
-        put_head(start, end, out, LINE * i);
+        copy_head(&pairs, start, end, out, LINE * i);
         copy_tail(&tails, TAIL * blocks[i] as usize, out, LINE * i + HEAD);
         start = end;
         i += 1;

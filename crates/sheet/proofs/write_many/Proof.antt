@@ -11,24 +11,31 @@ use Rattle.model.specs.Table.{arrays}
 use Rattle.model.proofs.Entries.{Put, put-none, put-length}
 use Rattle.model.proofs.Rules.{before-next}
 use Rattle.model.proofs.Sheets.{lentLine}
+use Rattle.decimal.proofs.Pairs.{pairs-held}
 use Rattle.sheet.specs.Lines.{headOf}
 use Rattle.sheet.proofs.Parts.{line-stored, sheet-stored, room-for, room-after, tail-at, head-ready, block-below}
 use Rattle.sheet.proofs.write_many.Statement.{statement}
 use Rattle.sheet.proofs.write_many.Tie as tie
 
 abbrev Inv-loop : tie.InvT-loop
-Inv-loop tops ends blocks out₀ tails count start₀ i₀ out start i =
+Inv-loop tops ends blocks out₀ pairs tails count start₀ i₀ out start i =
     (i ≤ count) × (start ≡ before ends i) × Put 0 (51 * i) (joined (from (lentLine (arrays tops ends blocks [])) 0 i)) out₀ out
 
 abbrev μ-loop : tie.MeasureT-loop
-μ-loop tops ends blocks out₀ tails count start₀ i₀ out start i = count - i
+μ-loop tops ends blocks out₀ pairs tails count start₀ i₀ out start i = count - i
+
+slice-aggregate-put-pairs : tie.Need-slice-aggregate-put-pairs Inv-loop μ-loop
+slice-aggregate-put-pairs c = search needs
+
+put-pairs-requires : tie.Need-put-pairs-requires Inv-loop μ-loop
+put-pairs-requires c κs = omega arith
 
 slice-aggregate-write-tails : tie.Need-slice-aggregate-write-tails Inv-loop μ-loop
 slice-aggregate-write-tails c = search needs
 
 write-tails-requires : tie.Need-write-tails-requires Inv-loop μ-loop
 write-tails-requires c κs =
-    let start = c .before .before .before .before .before in
+    let start = c .before .before .before .before .before .before .before .before in
     (record { ends = _; blocks = _; adjustments = _; formed = start .pre .0 .formed }, omega arith)
 
 cast-count : tie.Need-cast-count Inv-loop μ-loop
@@ -42,20 +49,25 @@ mul-end : tie.Need-mul-end Inv-loop μ-loop
 mul-end c = omega arith
 
 shared-slice-read-end : tie.Need-shared-slice-read-end Inv-loop μ-loop
-shared-slice-read-end c = omega (arith, c .before .before .before .before .before .before .before .before .before .before .before .pre .0 .formed .endsLong)
+shared-slice-read-end c = omega (arith, c .before .before .before .before .before .before .before .before .before .before .before .before .before .before .pre .0 .formed .endsLong)
 
-mul-put-head : tie.Need-mul-put-head Inv-loop μ-loop
-mul-put-head c = omega (arith, c .before .before .before .before .before .before .before .before .before .before .before .before .pre .0 .formed .intervalLimit)
+slice-aggregate-copy-head : tie.Need-slice-aggregate-copy-head Inv-loop μ-loop
+slice-aggregate-copy-head c = search needs
 
-put-head-requires : tie.Need-put-head-requires Inv-loop μ-loop
-put-head-requires c κs =
-    let start = c .before .before .before .before .before .before .before .before .before .before .before .before in
-    let turn = c .before .before .before .loop in
+mul-copy-head : tie.Need-mul-copy-head Inv-loop μ-loop
+mul-copy-head c = omega (arith, c .before .before .before .before .before .before .before .before .before .before .before .before .before .before .before .before .pre .0 .formed .intervalLimit)
+
+copy-head-requires : tie.Need-copy-head-requires Inv-loop μ-loop
+copy-head-requires c κs =
+    let start = c .before .before .before .before .before .before .before .before .before .before .before .before .before .before .before .before in
+    let turn = c .before .before .before .before .loop in
     let ready = head-ready (start .pre .0) (turn .i) (omega arith) in
     (
-      omega (arith, ready .0, turn .inv .1),
-      ready .1,
-      room-for (start .args .h .«interval_count») (start .pre .1) (turn .i) (turn .inv .2) (omega arith) .0,
+      pairs-held _ _ (omega arith) (c .before .before .before .before .before .before .before .before .before .before .put-pairs .ensures),
+      (
+        omega (arith, ready .0, turn .inv .1),
+        room-for (start .args .h .«interval_count») (start .pre .1) (turn .i) (turn .inv .2) (omega arith) .0,
+      ),
     )
 
 slice-aggregate-copy-tail : tie.Need-slice-aggregate-copy-tail Inv-loop μ-loop
@@ -65,33 +77,33 @@ mul-copy-tail : tie.Need-mul-copy-tail Inv-loop μ-loop
 mul-copy-tail c = omega arith
 
 shared-slice-read-copy-tail : tie.Need-shared-slice-read-copy-tail Inv-loop μ-loop
-shared-slice-read-copy-tail c = omega (arith, c .before .before .before .before .before .before .before .before .before .before .before .before .before .before .before .before .before .pre .0 .formed .blocksLong)
+shared-slice-read-copy-tail c = omega (arith, c .before .before .before .before .before .before .before .before .before .before .before .before .before .before .before .before .before .before .before .before .before .pre .0 .formed .blocksLong)
 
 cast-copy-tail : tie.Need-cast-copy-tail Inv-loop μ-loop
 cast-copy-tail c =
-    let start = c .before .before .before .before .before .before .before .before .before .before .before .before .before .before .before .before .before in
-    omega (arith, block-below (start .pre .0) (c .before .before .before .before .before .before .before .before .loop .i) (omega arith), start .pre .0 .formed .blockLimit)
+    let start = c .before .before .before .before .before .before .before .before .before .before .before .before .before .before .before .before .before .before .before .before .before in
+    omega (arith, block-below (start .pre .0) (c .before .before .before .before .before .before .before .before .before .loop .i) (omega arith), start .pre .0 .formed .blockLimit)
 
 mul-copy-tail-2 : tie.Need-mul-copy-tail-2 Inv-loop μ-loop
 mul-copy-tail-2 c =
-    let start = c .before .before .before .before .before .before .before .before .before .before .before .before .before .before .before .before .before in
-    omega (arith, block-below (start .pre .0) (c .before .before .before .before .before .before .before .before .loop .i) (omega arith), start .pre .0 .formed .blockLimit)
+    let start = c .before .before .before .before .before .before .before .before .before .before .before .before .before .before .before .before .before .before .before .before .before in
+    omega (arith, block-below (start .pre .0) (c .before .before .before .before .before .before .before .before .before .loop .i) (omega arith), start .pre .0 .formed .blockLimit)
 
 mul-copy-tail-3 : tie.Need-mul-copy-tail-3 Inv-loop μ-loop
-mul-copy-tail-3 c = omega (arith, c .before .before .before .before .before .before .before .before .before .before .before .before .before .before .before .before .before .before .pre .0 .formed .intervalLimit)
+mul-copy-tail-3 c = omega (arith, c .before .before .before .before .before .before .before .before .before .before .before .before .before .before .before .before .before .before .before .before .before .before .pre .0 .formed .intervalLimit)
 
 add-copy-tail : tie.Need-add-copy-tail Inv-loop μ-loop
-add-copy-tail c = omega (arith, c .before .before .before .before .before .before .before .before .before .before .before .before .before .before .before .before .before .before .pre .0 .formed .intervalLimit)
+add-copy-tail c = omega (arith, c .before .before .before .before .before .before .before .before .before .before .before .before .before .before .before .before .before .before .before .before .before .before .pre .0 .formed .intervalLimit)
 
 copy-tail-requires : tie.Need-copy-tail-requires Inv-loop μ-loop
 copy-tail-requires c κs =
-    let start = c .before .before .before .before .before .before .before .before .before .before .before .before .before .before .before .before .before .before in
-    let turn = c .before .before .before .before .before .before .before .before .before .loop in
+    let start = c .before .before .before .before .before .before .before .before .before .before .before .before .before .before .before .before .before .before .before .before .before .before in
+    let turn = c .before .before .before .before .before .before .before .before .before .before .loop in
     let block = block-below (start .pre .0) (turn .i) (omega arith) in
     (
-      tail-at (start .args .tops .now) _ _ _ _ (c .before .before .before .before .before .before .before .before .before .before .before .before .write-tails .ensures) (omega (arith, start .pre .0 .formed .blockLimit)) block .1,
-      room-after (start .args .h .«interval_count») (start .pre .1) (turn .i) (turn .inv .2) (omega arith)
-          (51 * turn .i) (headOf (turn .start) (getD (start .args .ends .now) (turn .i) 0)) (c .before .before .before .before .before .put-head .ensures),
+      tail-at (start .args .tops .now) _ _ _ _ (c .before .before .before .before .before .before .before .before .before .before .before .before .before .write-tails .ensures) (omega (arith, start .pre .0 .formed .blockLimit)) block .1,
+      room-after (start .args .h .«interval_count») (start .pre .1) (turn .i) (turn .inv .2) (omega arith) (51 * turn .i)
+          (headOf (turn .start) (getD (start .args .ends .now) (turn .i) 0)) (c .before .before .before .before .before .copy-head .ensures),
     )
 
 add-i : tie.Need-add-i Inv-loop μ-loop
@@ -102,17 +114,18 @@ loop-less c = omega arith
 
 loop-again : tie.Need-loop-again Inv-loop μ-loop
 loop-again c =
-    let start = c .before .before .before .before .before .before .before .before .before .before .before .before .before .before .before .before .before .before .before .before .before in
-    let turn = c .before .before .before .before .before .before .before .before .before .before .before .before .loop in
+    let start = c .before .before .before .before .before .before .before .before .before .before .before .before .before .before .before .before .before .before .before .before .before .before .before .before .before in
+    let turn = c .before .before .before .before .before .before .before .before .before .before .before .before .before .loop in
     let a = arrays (start .args .tops .now) (start .args .ends .now) (start .args .blocks .now) [] in
     let block = block-below (start .pre .0) (turn .i) (omega arith) in
-    let tail = tail-at (a .tops) _ _ _ _ (c .before .before .before .before .before .before .before .before .before .before .before .before .before .before .before .write-tails .ensures) (omega (arith, start .pre .0 .formed .blockLimit)) block .0 in
+    let tail = tail-at (a .tops) _ _ _ _ (c .before .before .before .before .before .before .before .before .before .before .before .before .before .before .before .before .write-tails .ensures) (omega (arith, start .pre .0 .formed .blockLimit)) block .0 in
+    let head = c .before .before .before .before .before .before .before .before .copy-head in
     (
       omega arith,
       sym (before-next (a .ends) (turn .i)),
       line-stored a (turn .i) (turn .inv .2)
-          (c .before .before .before .before .before .before .before .before .put-head .ensures ∙ ap (λ s. sets (turn .out) (51 * turn .i) (headOf s (getD (a .ends) (turn .i) 0))) (turn .inv .1))
-          (c .before .before .copy-tail .ensures ∙ ap (λ (l : List ℕ). sets (c .before .before .before .before .before .before .before .before .put-head .last .1 .1 .0) (51 * turn .i + 20) l) tail),
+          (head .ensures ∙ ap (λ s. sets (turn .out) (51 * turn .i) (headOf s (getD (a .ends) (turn .i) 0))) (turn .inv .1))
+          (c .before .before .copy-tail .ensures ∙ ap (λ (l : List ℕ). sets (head .last .1 .1 .1 .0) (51 * turn .i + 20) l) tail),
     )
 
 same-length : tie.Need-same-length Inv-loop μ-loop
@@ -120,7 +133,7 @@ same-length c = put-length (c .before .loop .inv .2)
 
 returns : tie.Need-returns Inv-loop μ-loop
 returns c =
-    let start = c .before .before .before .before .before .before .before .before .before .before in
+    let start = c .before .before .before .before .before .before .before .before .before .before .before .before .before in
     let all : c .before .loop .i ≡ start .args .h .«interval_count» = omega arith in
     sheet-stored (start .args .h) (start .args .tops .now) (start .args .ends .now) (start .args .blocks .now) (start .pre .0)
     (start .pre .1) (rw (← all) (c .before .loop .inv .2))
@@ -131,14 +144,17 @@ write-many-spec =
     (tie.spec
     Inv-loop
     μ-loop
+    slice-aggregate-put-pairs
+    put-pairs-requires
     slice-aggregate-write-tails
     write-tails-requires
     cast-count
     loop-holds
     mul-end
     shared-slice-read-end
-    mul-put-head
-    put-head-requires
+    slice-aggregate-copy-head
+    mul-copy-head
+    copy-head-requires
     slice-aggregate-copy-tail
     mul-copy-tail
     shared-slice-read-copy-tail

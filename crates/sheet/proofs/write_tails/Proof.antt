@@ -5,8 +5,9 @@ use native.Mathlib.Omega.{arith}
 use lib.Seq.{sets}
 use Rattle.model.specs.Basics.{from, joined}
 use Rattle.model.proofs.Entries.{Put, put-none, put-length}
-use Rattle.sheet.specs.Lines.{tailsOf}
-use Rattle.sheet.proofs.Parts.{tail-stored, tail-ready}
+use Rattle.model.proofs.Parts.{part-stored}
+use Rattle.sheet.specs.Lines.{tailOf, tailsOf}
+use Rattle.sheet.proofs.Parts.{tail-length, tail-ready}
 use Rattle.sheet.proofs.write_tails.Statement.{statement}
 use Rattle.sheet.proofs.write_tails.Tie as tie
 
@@ -42,10 +43,11 @@ loop-less : tie.Need-loop-less Inv-loop μ-loop
 loop-less c = omega arith
 
 loop-again : tie.Need-loop-again Inv-loop μ-loop
+unfolding tailsOf
 loop-again c =
     let start = c .before .before .before .before .before .before .before .before .before in
     let turn = c .before .before .before .before .before .before .loop in
-    (omega arith, tail-stored (start .args .tops .now) (turn .j) (turn .inv .1) (c .before .before .put-tail .ensures))
+    (omega arith, part-stored (tailOf (start .args .tops .now)) 31 (tail-length (start .args .tops .now)) (turn .j) (turn .inv .1) (c .before .before .put-tail .ensures))
 
 same-length : tie.Need-same-length Inv-loop μ-loop
 same-length c = put-length (c .before .before .loop .inv .1)
