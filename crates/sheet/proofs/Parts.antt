@@ -1,12 +1,13 @@
 -- Laws of the parts of a sheet's line, and of lines stored. Assumes nothing.
 use Prim.Native.Nat.{ℕ, zero, suc, _+_, _-_, _*_, _≤_, _<_}
 use mathlib.Core.Path.{_≡_, refl, sym, _∙_, ap, subst}
+use mathlib.Core.Logic.{⊎-elim}
 use mathlib.Core.List.{List, [], _∷_, _++_, append-nil, append-assoc}
 use native.Mathlib.Nat.{add-zero, zero-add, mul-suc}
 use native.Mathlib.Numerals.{add-one}
 use native.Mathlib.Omega.{arith}
-use lib.ListN.{length, getD, take, drop, length-append, length-drop}
-use lib.Seq.{take-suc, take-at, drop-append-add, getD-drop, sets, length-sets}
+use lib.ListN.{length, getD, take, drop, set, length-append, length-drop}
+use lib.Seq.{take-suc, getD-drop, set-set, set-comm, sets, length-sets}
 use Rattle.model.specs.Basics.{from, joined, before}
 use Rattle.model.specs.Table.{Arrays, arrays, table, over, firstBin, blockBins}
 use Rattle.model.specs.Limits.{maxBuckets, maxBins}
@@ -14,11 +15,12 @@ use Rattle.model.specs.Lent.{SpansFormed}
 use Rattle.model.specs.Sound.{Formed}
 use Rattle.model.specs.Sheet.{field, sheetLine, sheet, sheetLength}
 use Rattle.model.specs.declared.table.Header.{Header}
+use Rattle.model.proofs.Counts.{below-or}
 use Rattle.model.proofs.Parts.{parts-length, part-at, joined-next}
 use Rattle.model.proofs.Rows.{end-within}
-use Rattle.model.proofs.Entries.{sets-over, Put, put-length, put-more, put-over}
+use Rattle.model.proofs.Entries.{sets-swap, sets-over, Put, put-length, put-more, put-over}
 use Rattle.model.proofs.Sheets.{field-length, lentLine, sheet-lent, top-within}
-use Rattle.sheet.specs.Lines.{headOf, tailOf, tailsOf}
+use Rattle.sheet.specs.Lines.{headOf, tailOf, spacedTail, tailsOf}
 
 pub head-length : (start end : ℕ) → length (headOf start end) ≡ 20
 unfolding headOf
@@ -91,28 +93,72 @@ pub room-for
 unfolding sheetLength
 room-for k room i p l = (omega (arith, put-length p), omega (arith, put-length p))
 
+pub room-before
+    : (k : ℕ) {new old out : List ℕ} → sheetLength k ≤ length old → (i : ℕ) → Put 0 (51 * i) new old out → i < k
+    → 51 * i + 20 - 1 + 32 ≤ length out
+room-before k room i p l = omega (arith, room-for k room i p l .1)
+
 pub room-after
     : (k : ℕ) {new old out next : List ℕ} → sheetLength k ≤ length old → (i : ℕ) → Put 0 (51 * i) new old out → i < k
     → (o : ℕ) (head : List ℕ) → next ≡ sets out o head → 51 * i + 20 + 31 ≤ length next
 room-after k {out = out} room i p l o head e =
     omega (arith, ap length e, length-sets out o head, room-for k room i p l .1)
 
+-- tails with a blank before each
+pub spaced-length : (tops : List ℕ) (j : ℕ) → length (spacedTail tops j) ≡ 32
+unfolding spacedTail
+spaced-length tops j = ap suc (tail-length tops j)
+
+-- the blank, then the tail
+pub spaced-stored
+    : (tops : List ℕ) (j : ℕ) (out done : List ℕ) → done ≡ sets (set out (32 * j) 32) (32 * j + 1) (tailOf tops j)
+    → done ≡ sets out (32 * j) (spacedTail tops j)
+unfolding spacedTail
+spaced-stored tops j out done e = e ∙ ap (λ k. sets (set out (32 * j) 32) k (tailOf tops j)) (add-one (32 * j))
+
 -- read where they all are
 pub tail-at
-    : (tops own tails : List ℕ) (n j : ℕ) → tails ≡ sets own 0 (tailsOf tops n) → 31 * n ≤ length own → j < n
-    → (take 31 (drop (31 * j) tails) ≡ tailOf tops j) × (31 * j + 31 ≤ length tails)
+    : (tops own tails : List ℕ) (n j : ℕ) → tails ≡ sets own 0 (tailsOf tops n) → 32 * n ≤ length own → j < n
+    → (take 32 (drop (32 * j) tails) ≡ spacedTail tops j) × (32 * j + 32 ≤ length tails)
 unfolding tailsOf over
 tail-at tops own tails n j e room l =
-    let size = parts-length (tailOf tops) 31 (tail-length tops) 0 n in
+    let size = parts-length (spacedTail tops) 32 (spaced-length tops) 0 n in
     let whole = e ∙ sets-over (tailsOf tops n) own (omega (arith, size)) in (
-      ap (λ (xs : List ℕ). take 31 (drop (31 * j) xs)) whole ∙ read (tailsOf tops n) refl ∙ ap (tailOf tops) (zero-add j),
+      ap (λ (xs : List ℕ). take 32 (drop (32 * j) xs)) whole ∙ read (tailsOf tops n) refl ∙ ap (spacedTail tops) (zero-add j),
       omega (arith, ap length e, length-sets own 0 (tailsOf tops n)),
     )
   where
-    read : (xs : List ℕ) → xs ≡ joined (from (tailOf tops) 0 n) → take 31 (drop (31 * j) (over xs own)) ≡ tailOf tops (0 + j)
+    read : (xs : List ℕ) → xs ≡ joined (from (spacedTail tops) 0 n) → take 32 (drop (32 * j) (over xs own)) ≡ spacedTail tops (0 + j)
     read xs e =
-        ap (λ (ys : List ℕ). take 31 (drop (31 * j) (over ys own))) e
-        ∙ part-at (tailOf tops) 31 (tail-length tops) 0 n j (drop (length (joined (from (tailOf tops) 0 n))) own) l
+        ap (λ (ys : List ℕ). take 32 (drop (32 * j) (over ys own))) e
+        ∙ part-at (spacedTail tops) 32 (spaced-length tops) 0 n j (drop (length (joined (from (spacedTail tops) 0 n))) own) l
+
+-- an entry that others cover
+hidden
+    : (hs l : List ℕ) (o i w : ℕ) → o ≤ i → i < o + length hs → sets (set l i w) o hs ≡ sets l o hs
+hidden [] l o i w a b = absurd (omega arith)
+hidden (h ∷ hs) l o i w a b =
+    ⊎-elim
+    (λ later.
+    ap (λ (m : List ℕ). sets m (suc o) hs) (set-comm l i o w h (λ (e : i ≡ o). omega (arith, later)))
+    ∙ hidden hs (set l o h) (suc o) i w later (omega arith))
+    (λ here.
+    let same : i ≡ o = omega (arith, here) in
+    ap (λ (m : List ℕ). sets m (suc o) hs) (ap (λ k. set (set l k w) o h) same ∙ set-set l o w h))
+    (below-or o i)
+
+-- a tail with its blank, and then the head, which covers the blank
+pub head-last
+    : (l next done tail head : List ℕ) (o w : ℕ) → length head ≡ 20 → next ≡ sets l (o + 20 - 1) (w ∷ tail) → done ≡ sets next o head
+    → done ≡ sets (sets l o head) (o + 20) tail
+head-last l next done tail head o w size e f =
+    let before : o + 20 - 1 ≡ o + 19 = omega arith in
+    let behind : suc (o + 19) ≡ o + 20 = omega arith in
+    f
+    ∙ ap (λ (m : List ℕ). sets m o head)
+    (e ∙ ap (λ k. sets l k (w ∷ tail)) before ∙ ap (λ k. sets (set l (o + 19) w) k tail) behind)
+    ∙ sym (sets-swap head tail (set l (o + 19) w) o (o + 20) (omega (arith, size)))
+    ∙ ap (λ (m : List ℕ). sets m (o + 20) tail) (hidden head l o (o + 19) w (omega arith) (omega (arith, size)))
 
 -- WHAT A FORMED TABLE HAS
 

@@ -13,6 +13,9 @@ headOf start end = field start ++ field (end - 1)
 unfoldable pub tailOf : List ℕ → ℕ → List ℕ
 tailOf tops j = field j ++ (field (firstBin tops j) ++ (field (blockBins tops j) ++ (10 ∷ [])))
 
--- the tails of the first n blocks
+-- with a blank before it; and those of the first n blocks
+unfoldable pub spacedTail : List ℕ → ℕ → List ℕ
+spacedTail tops j = 32 ∷ tailOf tops j
+
 unfoldable pub tailsOf : List ℕ → ℕ → List ℕ
-tailsOf tops n = joined (from (tailOf tops) 0 n)
+tailsOf tops n = joined (from (spacedTail tops) 0 n)

@@ -21,16 +21,17 @@ ghost use Rattle.model.specs.Calls.{sheetTests, sheetAnswer, sheetAfter};
 ghost use Rattle.decimal.specs.Parts.{HoldsPairs};
 ghost use Rattle.sheet.specs.Lines.{headOf, tailOf, tailsOf};
 
-// The bytes of a line, of its head and of its tail.
+// The bytes of a line and of its head.
 const LINE: usize = 51;
 
 const HEAD: usize = 20;
 
-const TAIL: usize = 31;
+// In a table of tails each has a blank before it, so that two moves of sixteen bytes copy it; and the tails of the most blocks.
+const TAIL: usize = 32;
 
-// The tails of the most blocks, and all pairs of digits.
-const TAILS: usize = 2_015;
+const TAILS: usize = 2_080;
 
+// All pairs of digits.
 const PAIRS: usize = 200;
 
 // For so many intervals it pays to write each block's tail once.
@@ -71,10 +72,10 @@ fn put_tail(tops: &[u32], block: u32, out: &mut [u8], at: usize)
     out[at + 30] = b'\n';
 }
 
-// A tail that is written already.
+// A tail that is written already, with the blank before it.
 fn copy_tail(tails: &[u8], from: usize, out: &mut [u8], at: usize)
-    requires { ⌜ (from + 31 ≤ length (now tails)) × (at + 31 ≤ length (now out)) ⌝ }
-    ensures { λ _. ⌜ now (out .exit) ≡ sets (now (out .entry)) at (take 31 (drop from (now (tails .entry)))) ⌝ }
+    requires { ⌜ (from + 32 ≤ length (now tails)) × (at + 32 ≤ length (now out)) ⌝ }
+    ensures { λ _. ⌜ now (out .exit) ≡ sets (now (out .entry)) at (take 32 (drop from (now (tails .entry)))) ⌝ }
 {
     let mut i: usize = 0;
     while i < TAIL {
@@ -83,15 +84,16 @@ fn copy_tail(tails: &[u8], from: usize, out: &mut [u8], at: usize)
     }
 }
 
-// The tails of all blocks.
+// The tails of all blocks, each with a blank before it.
 fn write_tails(h: Header, tops: &[u32], out: &mut [u8])
     requires tops { ⌜ TopsFormed h (now tops) ⌝ }
-    requires room { ⌜ 2_015 ≤ length (now out) ⌝ }
+    requires room { ⌜ 2_080 ≤ length (now out) ⌝ }
     ensures { λ _. ⌜ now (out .exit) ≡ sets (now (out .entry)) 0 (tailsOf (now (tops .entry)) (h .«block_count»)) ⌝ }
 {
     let mut j: u32 = 0;
     while j < h.block_count {
-        put_tail(tops, j, out, TAIL * j as usize);
+        out[TAIL * j as usize] = b' ';
+        put_tail(tops, j, out, TAIL * j as usize + 1);
         j += 1;
     }
 }
@@ -117,7 +119,7 @@ fn write_few(h: Header, tops: &[u32], ends: &[u32], blocks: &[u32], out: &mut [u
     }
 }
 
-// The sheet of many, with pairs of digits and tails copied.
+// The sheet of many, with pairs of digits and tails copied: the tail first, since the head covers the blank before it.
 fn write_many(h: Header, tops: &[u32], ends: &[u32], blocks: &[u32], out: &mut [u8])
     requires formed { ⌜ SpansFormed h (now tops) (now ends) (now blocks) ⌝ }
     requires room { ⌜ sheetLength (h .«interval_count») ≤ length (now out) ⌝ }
@@ -135,8 +137,8 @@ fn write_many(h: Header, tops: &[u32], ends: &[u32], blocks: &[u32], out: &mut [
     let mut i: usize = 0;
     while i < count {
         let end = ends[i];
+        copy_tail(&tails, TAIL * blocks[i] as usize, out, LINE * i + HEAD - 1);
         copy_head(&pairs, start, end, out, LINE * i);
-        copy_tail(&tails, TAIL * blocks[i] as usize, out, LINE * i + HEAD);
         start = end;
         i += 1;
     }
@@ -159,7 +161,13 @@ fn write_sheet(h: Header, tops: &[u32], ends: &[u32], blocks: &[u32], out: &mut 
 }
 
 // The sheet into a buffer, or 34 where that is shorter than a line an interval.
-pub fn printed(h: Header, tops: &[u32], ends: &[u32], blocks: &[u32], buffer: &mut [u8]) -> SheetReply
+pub fn printed(
+    h: Header,
+    tops: &[u32],
+    ends: &[u32],
+    blocks: &[u32],
+    buffer: &mut [u8],
+) -> SheetReply
     requires { ⌜ SpansFormed h (now tops) (now ends) (now blocks) ⌝ }
     ensures reply { λ r. ⌜ r ≡ sheetAnswer (first (sheetTests h (now (buffer .entry)))) h ⌝ }
     ensures bytes { λ _.

@@ -12,10 +12,10 @@ use Rattle.sheet.proofs.copy_tail.Statement.{statement}
 use Rattle.sheet.proofs.copy_tail.Tie as tie
 
 abbrev Inv-loop : tie.InvT-loop
-Inv-loop tails from out₀ at i₀ out i = (i ≤ 31) × Put at (at + i) (take i (drop from tails)) out₀ out
+Inv-loop tails from out₀ at i₀ out i = (i ≤ 32) × Put at (at + i) (take i (drop from tails)) out₀ out
 
 abbrev μ-loop : tie.MeasureT-loop
-μ-loop tails from out₀ at i₀ out i = 31 - i
+μ-loop tails from out₀ at i₀ out i = 32 - i
 
 loop-holds : tie.Need-loop-holds Inv-loop μ-loop
 loop-holds c = (omega arith, rw add-zero (put-none _ _))
@@ -51,7 +51,7 @@ same-length c = put-length (c .before .loop .inv .1)
 returns : tie.Need-returns Inv-loop μ-loop
 returns c =
     let start = c .before .before in
-    let all : c .before .loop .i ≡ 31 = omega arith in
+    let all : c .before .loop .i ≡ 32 = omega arith in
     c .before .loop .inv .1 .holds
     ∙ ap (λ i. sets (start .args .out .now) (start .args .at) (take i (drop (start .args .from) (start .args .tails .now)))) all
 

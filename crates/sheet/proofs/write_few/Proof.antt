@@ -42,8 +42,7 @@ put-head-requires : tie.Need-put-head-requires Inv-loop μ-loop
 put-head-requires c κs =
     let start = c .before .before .before .before .before .before .before .before .before in
     let turn = c .before .before .before .loop in
-    let ready = head-ready (start .pre .0) (turn .i) (omega arith) in
-    (
+    let ready = head-ready (start .pre .0) (turn .i) (omega arith) in (
       omega (arith, ready .0, turn .inv .1),
       ready .1,
       room-for (start .args .h .«interval_count») (start .pre .1) (turn .i) (turn .inv .2) (omega arith) .0,
@@ -65,8 +64,7 @@ put-tail-requires : tie.Need-put-tail-requires Inv-loop μ-loop
 put-tail-requires c κs =
     let start = c .before .before .before .before .before .before .before .before .before .before .before .before .before .before in
     let turn = c .before .before .before .before .before .before .before .before .loop in
-    let block = block-below (start .pre .0) (turn .i) (omega arith) in
-    (
+    let block = block-below (start .pre .0) (turn .i) (omega arith) in (
       tail-ready (start .args .h) _ (start .pre .0 .formed) _ block,
       room-after (start .args .h .«interval_count») (start .pre .1) (turn .i) (turn .inv .2) (omega arith)
           (51 * turn .i) (headOf (turn .start) (getD (start .args .ends .now) (turn .i) 0)) (c .before .before .before .before .put-head .ensures),
@@ -82,8 +80,7 @@ loop-again : tie.Need-loop-again Inv-loop μ-loop
 loop-again c =
     let start = c .before .before .before .before .before .before .before .before .before .before .before .before .before .before .before .before .before in
     let turn = c .before .before .before .before .before .before .before .before .before .before .before .loop in
-    let a = arrays (start .args .tops .now) (start .args .ends .now) (start .args .blocks .now) [] in
-    (
+    let a = arrays (start .args .tops .now) (start .args .ends .now) (start .args .blocks .now) [] in (
       omega arith,
       sym (before-next (a .ends) (turn .i)),
       line-stored a (turn .i) (turn .inv .2)

@@ -3,8 +3,8 @@ use Prim.Native.Nat.{ℕ, _+_, _-_, _*_, _≤_}
 use mathlib.Core.Path.{_≡_, refl, sym, _∙_, ap}
 use mathlib.Core.List.{List, []}
 use native.Mathlib.Omega.{arith}
-use lib.ListN.{getD}
-use lib.Seq.{sets}
+use lib.ListN.{length, getD, take, drop}
+use lib.Seq.{sets, length-sets}
 use borrow.Author.Needs.{needs}
 use Rattle.model.specs.Basics.{from, joined, before}
 use Rattle.model.specs.Table.{arrays}
@@ -12,8 +12,8 @@ use Rattle.model.proofs.Entries.{Put, put-none, put-length}
 use Rattle.model.proofs.Rules.{before-next}
 use Rattle.model.proofs.Sheets.{lentLine}
 use Rattle.decimal.proofs.Pairs.{pairs-held}
-use Rattle.sheet.specs.Lines.{headOf}
-use Rattle.sheet.proofs.Parts.{line-stored, sheet-stored, room-for, room-after, tail-at, head-ready, block-below}
+use Rattle.sheet.specs.Lines.{headOf, tailOf, spacedTail}
+use Rattle.sheet.proofs.Parts.{line-stored, sheet-stored, room-for, room-before, tail-at, head-length, head-last, head-ready, block-below}
 use Rattle.sheet.proofs.write_many.Statement.{statement}
 use Rattle.sheet.proofs.write_many.Tie as tie
 
@@ -51,25 +51,6 @@ mul-end c = omega arith
 shared-slice-read-end : tie.Need-shared-slice-read-end Inv-loop μ-loop
 shared-slice-read-end c = omega (arith, c .before .before .before .before .before .before .before .before .before .before .before .before .before .before .pre .0 .formed .endsLong)
 
-slice-aggregate-copy-head : tie.Need-slice-aggregate-copy-head Inv-loop μ-loop
-slice-aggregate-copy-head c = search needs
-
-mul-copy-head : tie.Need-mul-copy-head Inv-loop μ-loop
-mul-copy-head c = omega (arith, c .before .before .before .before .before .before .before .before .before .before .before .before .before .before .before .before .pre .0 .formed .intervalLimit)
-
-copy-head-requires : tie.Need-copy-head-requires Inv-loop μ-loop
-copy-head-requires c κs =
-    let start = c .before .before .before .before .before .before .before .before .before .before .before .before .before .before .before .before in
-    let turn = c .before .before .before .before .loop in
-    let ready = head-ready (start .pre .0) (turn .i) (omega arith) in
-    (
-      pairs-held _ _ (omega arith) (c .before .before .before .before .before .before .before .before .before .before .put-pairs .ensures),
-      (
-        omega (arith, ready .0, turn .inv .1),
-        room-for (start .args .h .«interval_count») (start .pre .1) (turn .i) (turn .inv .2) (omega arith) .0,
-      ),
-    )
-
 slice-aggregate-copy-tail : tie.Need-slice-aggregate-copy-tail Inv-loop μ-loop
 slice-aggregate-copy-tail c = search needs
 
@@ -77,33 +58,54 @@ mul-copy-tail : tie.Need-mul-copy-tail Inv-loop μ-loop
 mul-copy-tail c = omega arith
 
 shared-slice-read-copy-tail : tie.Need-shared-slice-read-copy-tail Inv-loop μ-loop
-shared-slice-read-copy-tail c = omega (arith, c .before .before .before .before .before .before .before .before .before .before .before .before .before .before .before .before .before .before .before .before .before .pre .0 .formed .blocksLong)
+shared-slice-read-copy-tail c = omega (arith, c .before .before .before .before .before .before .before .before .before .before .before .before .before .before .before .before .pre .0 .formed .blocksLong)
 
 cast-copy-tail : tie.Need-cast-copy-tail Inv-loop μ-loop
 cast-copy-tail c =
-    let start = c .before .before .before .before .before .before .before .before .before .before .before .before .before .before .before .before .before .before .before .before .before in
-    omega (arith, block-below (start .pre .0) (c .before .before .before .before .before .before .before .before .before .loop .i) (omega arith), start .pre .0 .formed .blockLimit)
+    let start = c .before .before .before .before .before .before .before .before .before .before .before .before .before .before .before .before in
+    omega (arith, block-below (start .pre .0) (c .before .before .before .before .loop .i) (omega arith), start .pre .0 .formed .blockLimit)
 
 mul-copy-tail-2 : tie.Need-mul-copy-tail-2 Inv-loop μ-loop
 mul-copy-tail-2 c =
-    let start = c .before .before .before .before .before .before .before .before .before .before .before .before .before .before .before .before .before .before .before .before .before in
-    omega (arith, block-below (start .pre .0) (c .before .before .before .before .before .before .before .before .before .loop .i) (omega arith), start .pre .0 .formed .blockLimit)
+    let start = c .before .before .before .before .before .before .before .before .before .before .before .before .before .before .before .before in
+    omega (arith, block-below (start .pre .0) (c .before .before .before .before .loop .i) (omega arith), start .pre .0 .formed .blockLimit)
 
 mul-copy-tail-3 : tie.Need-mul-copy-tail-3 Inv-loop μ-loop
-mul-copy-tail-3 c = omega (arith, c .before .before .before .before .before .before .before .before .before .before .before .before .before .before .before .before .before .before .before .before .before .before .pre .0 .formed .intervalLimit)
+mul-copy-tail-3 c = omega (arith, c .before .before .before .before .before .before .before .before .before .before .before .before .before .before .before .before .before .pre .0 .formed .intervalLimit)
 
 add-copy-tail : tie.Need-add-copy-tail Inv-loop μ-loop
-add-copy-tail c = omega (arith, c .before .before .before .before .before .before .before .before .before .before .before .before .before .before .before .before .before .before .before .before .before .before .pre .0 .formed .intervalLimit)
+add-copy-tail c = omega (arith, c .before .before .before .before .before .before .before .before .before .before .before .before .before .before .before .before .before .pre .0 .formed .intervalLimit)
+
+sub-copy-tail : tie.Need-sub-copy-tail Inv-loop μ-loop
+sub-copy-tail c = omega arith
 
 copy-tail-requires : tie.Need-copy-tail-requires Inv-loop μ-loop
 copy-tail-requires c κs =
+    let start = c .before .before .before .before .before .before .before .before .before .before .before .before .before .before .before .before .before in
+    let turn = c .before .before .before .before .before .loop in
+    let block = block-below (start .pre .0) (turn .i) (omega arith) in (
+      tail-at (start .args .tops .now) _ _ _ _ (c .before .before .before .before .before .before .before .before .write-tails .ensures) (omega (arith, start .pre .0 .formed .blockLimit)) block .1,
+      room-before (start .args .h .«interval_count») (start .pre .1) (turn .i) (turn .inv .2) (omega arith),
+    )
+
+slice-aggregate-copy-head : tie.Need-slice-aggregate-copy-head Inv-loop μ-loop
+slice-aggregate-copy-head c = search needs
+
+mul-copy-head : tie.Need-mul-copy-head Inv-loop μ-loop
+mul-copy-head c = omega (arith, c .before .before .before .before .before .before .before .before .before .before .before .before .before .before .before .before .before .before .before .before .before .before .pre .0 .formed .intervalLimit)
+
+copy-head-requires : tie.Need-copy-head-requires Inv-loop μ-loop
+copy-head-requires c κs =
     let start = c .before .before .before .before .before .before .before .before .before .before .before .before .before .before .before .before .before .before .before .before .before .before in
     let turn = c .before .before .before .before .before .before .before .before .before .before .loop in
-    let block = block-below (start .pre .0) (turn .i) (omega arith) in
-    (
-      tail-at (start .args .tops .now) _ _ _ _ (c .before .before .before .before .before .before .before .before .before .before .before .before .before .write-tails .ensures) (omega (arith, start .pre .0 .formed .blockLimit)) block .1,
-      room-after (start .args .h .«interval_count») (start .pre .1) (turn .i) (turn .inv .2) (omega arith) (51 * turn .i)
-          (headOf (turn .start) (getD (start .args .ends .now) (turn .i) 0)) (c .before .before .before .before .before .copy-head .ensures),
+    let ready = head-ready (start .pre .0) (turn .i) (omega arith) in
+    let kept = ap length (c .before .before .before .before .copy-tail .ensures) ∙ length-sets (turn .out) (51 * turn .i + 20 - 1)
+    (take 32 (drop (32 * getD (start .args .blocks .now) (turn .i) 0) (c .before .before .before .before .before .before .before .before .before .before .before .before .before .write-tails .last .1 .1 .0))) in (
+      pairs-held _ _ (omega arith) (c .before .before .before .before .before .before .before .before .before .before .before .before .before .before .before .before .put-pairs .ensures),
+      (
+        omega (arith, ready .0, turn .inv .1),
+        omega (arith, kept, room-for (start .args .h .«interval_count») (start .pre .1) (turn .i) (turn .inv .2) (omega arith) .0),
+      ),
     )
 
 add-i : tie.Need-add-i Inv-loop μ-loop
@@ -113,19 +115,22 @@ loop-less : tie.Need-loop-less Inv-loop μ-loop
 loop-less c = omega arith
 
 loop-again : tie.Need-loop-again Inv-loop μ-loop
+unfolding spacedTail
 loop-again c =
     let start = c .before .before .before .before .before .before .before .before .before .before .before .before .before .before .before .before .before .before .before .before .before .before .before .before .before in
     let turn = c .before .before .before .before .before .before .before .before .before .before .before .before .before .loop in
     let a = arrays (start .args .tops .now) (start .args .ends .now) (start .args .blocks .now) [] in
     let block = block-below (start .pre .0) (turn .i) (omega arith) in
-    let tail = tail-at (a .tops) _ _ _ _ (c .before .before .before .before .before .before .before .before .before .before .before .before .before .before .before .before .write-tails .ensures) (omega (arith, start .pre .0 .formed .blockLimit)) block .0 in
-    let head = c .before .before .before .before .before .before .before .before .copy-head in
-    (
+    let spaced = tail-at (a .tops) _ _ _ _ (c .before .before .before .before .before .before .before .before .before .before .before .before .before .before .before .before .write-tails .ensures) (omega (arith, start .pre .0 .formed .blockLimit)) block .0 in
+    let tail = tailOf (a .tops) (getD (a .blocks) (turn .i) 0) in
+    let head = headOf (before (a .ends) (turn .i)) (getD (a .ends) (turn .i) 0) in (
       omega arith,
       sym (before-next (a .ends) (turn .i)),
-      line-stored a (turn .i) (turn .inv .2)
-          (head .ensures ∙ ap (λ s. sets (turn .out) (51 * turn .i) (headOf s (getD (a .ends) (turn .i) 0))) (turn .inv .1))
-          (c .before .before .copy-tail .ensures ∙ ap (λ (l : List ℕ). sets (head .last .1 .1 .1 .0) (51 * turn .i + 20) l) tail),
+      line-stored a (turn .i) {next = sets (turn .out) (51 * turn .i) head} (turn .inv .2) refl
+          (head-last (turn .out) _ _ tail head (51 * turn .i) 32 (head-length (before (a .ends) (turn .i)) (getD (a .ends) (turn .i) 0))
+          (c .before .before .before .before .before .before .before .copy-tail .ensures ∙ ap (sets (turn .out) (51 * turn .i + 20 - 1)) spaced)
+          (c .before .before .copy-head .ensures
+          ∙ ap (λ s. sets (c .before .before .before .before .before .before .before .copy-tail .last .1 .1 .0) (51 * turn .i) (headOf s (getD (a .ends) (turn .i) 0))) (turn .inv .1))),
     )
 
 same-length : tie.Need-same-length Inv-loop μ-loop
@@ -152,9 +157,6 @@ write-many-spec =
     loop-holds
     mul-end
     shared-slice-read-end
-    slice-aggregate-copy-head
-    mul-copy-head
-    copy-head-requires
     slice-aggregate-copy-tail
     mul-copy-tail
     shared-slice-read-copy-tail
@@ -162,7 +164,11 @@ write-many-spec =
     mul-copy-tail-2
     mul-copy-tail-3
     add-copy-tail
+    sub-copy-tail
     copy-tail-requires
+    slice-aggregate-copy-head
+    mul-copy-head
+    copy-head-requires
     add-i
     loop-less
     loop-again
