@@ -1,6 +1,6 @@
-# For C programmers: the library of the ten calls, the program, the example, the tests, the installation.
+# For C programmers: the library of the eleven calls, the program, the examples, the tests, the installation.
 #
-#   make                  the library target/c/libirr.a, the program target/bin/rackmap, the example
+#   make                  the library target/c/libirr.a, the program target/bin/rackmap, the examples
 #   make check            the host tests and the test of the installation
 #   make install          installs the library, the header, the program and the man pages
 #   make uninstall        takes them away again
@@ -45,7 +45,7 @@ all: archive program example
 
 archive: $(ARCHIVE)
 program: $(PROGRAM)
-example: $(OUT)/rack
+example: $(OUT)/rack $(OUT)/sheet
 
 $(PROVED): $(CRATES)
 	tools/prove irr
@@ -66,8 +66,8 @@ $(OUT)/archive: FORCE
 	@mkdir -p $(OUT)
 	@echo '$(ARCHIVE)' | cmp -s - $@ || echo '$(ARCHIVE)' > $@
 
-$(OUT)/rack: examples/rack.c include/irr.h $(ARCHIVE) $(OUT)/archive
-	$(COMPILE) $(LDFLAGS) examples/rack.c $(ARCHIVE) $(LDLIBS) -o $@
+$(OUT)/rack $(OUT)/sheet: $(OUT)/%: examples/%.c include/irr.h $(ARCHIVE) $(OUT)/archive
+	$(COMPILE) $(LDFLAGS) $< $(ARCHIVE) $(LDLIBS) -o $@
 
 check: $(ARCHIVE) $(PROGRAM)
 	ARCHIVE='$(ARCHIVE)' OUT='$(OUT)/tests' CC='$(CC)' CXX='$(CXX)' CPPFLAGS='$(CPPFLAGS)' \

@@ -46,8 +46,13 @@ AT(irr_save_reply, length, 4);
 SIZE(irr_load_reply, 20);
 AT(irr_load_reply, refusal, 0);
 AT(irr_load_reply, header, 4);
+SIZE(irr_sheet_reply, 8);
+AT(irr_sheet_reply, refusal, 0);
+AT(irr_sheet_reply, length, 4);
 
 _Static_assert(IRR_MAX_SAVED == 12 + 4 * IRR_MAX_BLOCKS + 8 * IRR_MAX_INTERVALS, "largest file");
+_Static_assert(IRR_LINE == 51 && IRR_MAX_SHEET == 106131, "a line, the longest sheet");
+_Static_assert(IRR_MAX_SHEET == IRR_LINE * IRR_MAX_INTERVALS, "longest sheet");
 _Static_assert(IRR_MAX_INTERVALS == IRR_MAX_EXPANSIONS * (IRR_MAX_EXPANSIONS + 1) / 2 + 1, "room");
 _Static_assert(IRR_OK == 0 && IRR_SIZE_OUTSIDE == 1 && IRR_BINS_ABOVE == 2 &&
                    IRR_SIZE_BELOW == 3 && IRR_SIZES_EQUAL == 4 && IRR_BLOCKS_FULL == 5 &&
@@ -55,7 +60,8 @@ _Static_assert(IRR_OK == 0 && IRR_SIZE_OUTSIDE == 1 && IRR_BINS_ABOVE == 2 &&
                    IRR_ORDER_OUTSIDE == 9 && IRR_WRONG_COUNT == 11 && IRR_WRONG_TOP == 12 &&
                    IRR_WRONG_END == 13 && IRR_WRONG_BLOCK == 14 && IRR_WRONG_HOLDING == 15 &&
                    IRR_WRONG_ADJUSTMENT == 16 && IRR_ROOM_SHORT == 21 && IRR_WRONG_CAPACITY == 30 &&
-                   IRR_BIN_OVERFULL == 31 && IRR_LIST_FALLS == 32 && IRR_RESULT_SHORT == 33,
+                   IRR_BIN_OVERFULL == 31 && IRR_LIST_FALLS == 32 && IRR_RESULT_SHORT == 33 &&
+                   IRR_SHEET_SHORT == 34,
                "refusal numbers");
 
 struct table {
@@ -101,6 +107,7 @@ static void same(const char *what, const void *got, size_t n, const uint32_t *wa
 #define ROOM(r) (const uint32_t[]){(r).refusal, (r).intervals}
 #define SAVE(r) (const uint32_t[]){(r).refusal, (r).length}
 #define LOAD(r) (const uint32_t[]){(r).refusal, HEADER((r).header)}
+#define SHEET(r) (const uint32_t[]){(r).refusal, (r).length}
 
 static struct table a, b;
 
@@ -176,6 +183,40 @@ static void check_file(void)
     same("loaded adjustments", a.adjustments, WANT(0, 7));
 }
 
+/* The text of the sheet of t, in buffers exactly long enough, longer and a byte short: a refused
+ * call writes nothing, and an accepted one nothing past the sheet. */
+static void check_sheet(const struct table *t, const char *text)
+{
+    uint8_t sheet[6 * IRR_LINE], kept[6 * IRR_LINE];
+    uint32_t length = (uint32_t)strlen(text);
+    const size_t lengths[] = {length - 1, length, length + 1, sizeof sheet};
+    for (size_t i = 0; i < sizeof lengths / sizeof *lengths; i++) {
+        uint32_t refusal = lengths[i] < length ? IRR_SHEET_SHORT : 0;
+        memset(sheet, 0xee, sizeof sheet);
+        memset(kept, 0xee, sizeof kept);
+        if (refusal == 0)
+            memcpy(kept, text, length);
+        struct irr_sheet_reply reply = irr_sheet(t->header, ARRAYS(t), sheet, lengths[i]);
+        same("irr_sheet", SHEET(reply), WANT(refusal, refusal == 0 ? length : 0));
+        same("its text, and the bytes past it",
+             (const uint32_t[]){memcmp(sheet, kept, sizeof sheet) != 0}, WANT(0));
+    }
+}
+
+/* the sheets of document 01's map of (14, 5), and of the largest sizes */
+static void check_sheets(void)
+{
+    b.header = (struct irr_header){14, P, 4, 5};
+    check_sheet(&b, "         0         5         0         0         2\n"
+                    "         6         6         3         4         1\n"
+                    "         7         9         1         2         1\n"
+                    "        10        10         3         4         1\n"
+                    "        11        13         2         3         1\n");
+    struct irr_table_reply r = irr_initial(P, 65535, P, ARRAYS(&a));
+    a.header = r.header;
+    check_sheet(&a, "         0 999999999         0         0     65535\n");
+}
+
 /* the other figures: the table after each growth in turn */
 static void check_figures(void)
 {
@@ -243,6 +284,8 @@ static void check_empty(uint32_t *p)
     same("irr_bin_size, empty", BIN_SIZE(size), WANT(11, 0));
     struct irr_save_reply save = irr_save(header, NONE(p), bytes, 0);
     same("irr_save, empty", SAVE(save), WANT(11, 0));
+    struct irr_sheet_reply sheet = irr_sheet(header, NONE(p), bytes, 0);
+    same("irr_sheet, empty", SHEET(sheet), WANT(11, 0));
     struct irr_load_reply load = irr_load(bytes, 0, P, NONE(p));
     same("irr_load, empty", LOAD(load), WANT(21, 0, 0, 0, 0));
     load = irr_load(bytes, 0, P, ARRAYS(&a));
@@ -256,6 +299,8 @@ static void check_empty(uint32_t *p)
     same("irr_places, no room", PLACES(places), WANT(33));
     save = irr_save(table.header, ARRAYS(&a), bytes, 0);
     same("irr_save, no room", SAVE(save), WANT(21, 0));
+    sheet = irr_sheet(table.header, ARRAYS(&a), bytes, 0);
+    same("irr_sheet, no room", SHEET(sheet), WANT(34, 0));
 }
 
 int main(void)
@@ -264,6 +309,7 @@ int main(void)
     check_rooms();
     check_file();
     check_figures();
+    check_sheets();
     check_small_figures();
     check_empty(NULL);
     check_empty((uint32_t *)(uintptr_t)1);

@@ -20,7 +20,7 @@
 enum { PAST = 3, KEPT = 0xeeee };
 
 static struct directory before, after;
-static uint64_t maps, places, lists, growths, rows_seen, overfull_seen;
+static uint64_t maps, places, lists, lines, growths, rows_seen, overfull_seen;
 static uint32_t listed[2 * DIRECTORY_BUCKETS], numbers[4 * DIRECTORY_BUCKETS + PAST];
 static struct irr_place_reply single[DIRECTORY_BUCKETS];
 
@@ -203,6 +203,39 @@ static void check_lists(const struct directory *d, const struct table *t)
     check_wrong_lists(t);
 }
 
+/* whether bucket x is in the block and among the bins that a line of the sheet names */
+static int is_on_line(const struct directory *d, uint32_t x, const uint32_t *line)
+{
+    uint32_t bin = (uint32_t)d->bin[x];
+    return (uint32_t)d->block[x] == line[2] && bin >= line[3] && bin - line[3] < line[4];
+}
+
+/* the sheet: its lines take all buckets in turn, and each bucket's block and bin are on its line */
+static void check_sheet(const struct directory *d, const struct table *t)
+{
+    static uint8_t sheet[IRR_MAX_SHEET];
+    uint32_t line[FIELDS] = {0}, x = 0;
+    struct irr_sheet_reply r = irr_sheet(TABLE(t), sheet, sizeof sheet);
+    if (r.refusal != 0 || r.length != IRR_LINE * t->header.interval_count) {
+        fault("irr_sheet: refusal, length, intervals", r.refusal, r.length,
+              t->header.interval_count);
+        return;
+    }
+    for (uint32_t at = 0; at < r.length; at += IRR_LINE) {
+        if (!line_read(sheet + at, line) || line[0] != x || line[1] < x ||
+            line[1] >= t->header.buckets) {
+            fault("irr_sheet: byte, first bucket, right one", at, line[0], x);
+            return;
+        }
+        for (; x <= line[1]; x++)
+            if (!is_on_line(d, x, line))
+                fault("irr_sheet: bucket, block, first bin", x, line[2], line[3]);
+    }
+    if (x != t->header.buckets)
+        fault("irr_sheet: buckets on it, buckets", x, t->header.buckets, 0);
+    lines += r.length / IRR_LINE;
+}
+
 void check_map(const struct table *t)
 {
     if (t->header.buckets > DIRECTORY_BUCKETS)
@@ -212,6 +245,7 @@ void check_map(const struct table *t)
     check_places(&before, t);
     check_lists(&before, t);
     check_capacity(&before, t);
+    check_sheet(&before, t);
     maps++;
 }
 
@@ -316,6 +350,7 @@ void check_growth(const struct table *old, const struct table *grown, uint32_t m
     check_places(&after, grown);
     check_lists(&after, grown);
     check_capacity(&after, grown);
+    check_sheet(&after, grown);
     growths++;
 }
 
@@ -342,8 +377,8 @@ void buckets_summary(void)
 {
     printf("directory: %" PRIu64 " growths with %" PRIu64 " rows, %" PRIu64 " other maps, %" PRIu64
            " buckets placed and found, %" PRIu64 " lists of buckets, %" PRIu64
-           " growths that overfill a bin\n",
-           growths, rows_seen, maps, places, lists, overfull_seen);
+           " lines of sheets, %" PRIu64 " growths that overfill a bin\n",
+           growths, rows_seen, maps, places, lists, lines, overfull_seen);
     if (growths == 0 || rows_seen == 0 || maps == 0 || overfull_seen == 0)
         fault("the directory was never compared", (uint32_t)growths, (uint32_t)rows_seen, 0);
 }

@@ -13,7 +13,8 @@ void check_growth(const struct table *old, const struct table *grown, uint32_t m
  * and the move list is refused too. */
 void check_overfull(const struct table *old, uint32_t buckets, uint32_t bins);
 
-/* A sound table: every bucket, bin and position, lists of buckets, and the least capacity. */
+/* A sound table: every bucket, bin and position, lists of buckets, the least capacity, and the
+ * sheet. */
 void check_map(const struct table *t);
 
 /* prints what was compared */

@@ -12,12 +12,12 @@
 #include "random.h"
 #include "reference.h"
 
-enum { REFUSALS = 34, SHOWN = 10 };
+enum { REFUSALS = 35, SHOWN = 10 };
 
 static const char *const names[CALLS] = {"irr_initial",  "irr_expand", "irr_relocations",
                                          "irr_place",    "irr_places", "irr_find",
                                          "irr_bin_size", "irr_room",   "irr_save",
-                                         "irr_load"};
+                                         "irr_load",     "irr_sheet"};
 
 /* the refusals that each call can answer; 0 is an accepted call */
 static const signed char possible[CALLS][REFUSALS] = {
@@ -31,6 +31,7 @@ static const signed char possible[CALLS][REFUSALS] = {
     {0, 9, -1},
     {0, 11, 12, 13, 14, 15, 16, 30, 21, -1},
     {0, 21, 11, 12, 13, 14, 15, 30, -1},
+    {0, 11, 12, 13, 14, 15, 16, 30, 34, -1},
 };
 
 static struct lent in[4], out[4], list, more;
@@ -209,7 +210,8 @@ static uint32_t judge(enum call call, const struct table *t, const uint32_t *ask
 {
     uint32_t got[6], want[6];
     int room = call == INITIAL || call == EXPAND || call == LOAD;
-    int extra = call == RELOCATIONS || call == PLACES || call == SAVE || call == LOAD;
+    int extra = call == RELOCATIONS || call == PLACES || call == SAVE || call == LOAD ||
+                call == SHEET;
     const char *memory = difference(t != NULL, room, call == PLACES, extra);
     memcpy(got, reply, size);
     memcpy(want, expected, size);
@@ -223,7 +225,7 @@ static uint32_t judge(enum call call, const struct table *t, const uint32_t *ask
 #define JUDGE(call, t, a, b, c) \
     judge(call, t, (const uint32_t[]){a, b, c}, &got, &want, sizeof got)
 
-/* THE TEN CALLS */
+/* THE ELEVEN CALLS */
 
 uint32_t compare_initial(uint32_t buckets, uint32_t bins, uint32_t capacity, struct table *to)
 {
@@ -336,5 +338,35 @@ uint32_t compare_load(const uint8_t *file, size_t length, uint32_t capacity, str
     struct irr_load_reply want = ref_load(BYTES(&more, REFERENCE), capacity, FOUR(out, REFERENCE));
     if (JUDGE(LOAD, NULL, (uint32_t)length, capacity, 0) == 0)
         take_table(got.header, to);
+    return got.refusal;
+}
+
+/* the archive's sheet, read back line by line: the numbers are those of the table */
+static void check_lines(const struct table *t)
+{
+    for (uint32_t i = 0; i < t->header.interval_count; i++) {
+        uint32_t got[FIELDS], block = t->blocks[i];
+        uint32_t bin = block == 0 ? 0 : t->tops[block - 1];
+        const uint32_t want[FIELDS] = {i == 0 ? 0 : t->ends[i - 1], t->ends[i] - 1, block, bin,
+                                       t->tops[block] - bin};
+        if (!line_read(bytes(&more, ARCHIVE) + IRR_LINE * i, got))
+            fault("irr_sheet: no such line: line, of", i, t->header.interval_count, 0);
+        else
+            for (uint32_t f = 0; f < FIELDS; f++)
+                if (got[f] != want[f])
+                    fault("irr_sheet, read back: field, number, right one", f, got[f], want[f]);
+    }
+}
+
+uint32_t compare_sheet(const struct table *t, size_t buffer_len)
+{
+    lend_table(t);
+    lent_junk(&more, buffer_len);
+    current = SHEET;
+    struct irr_sheet_reply got = irr_sheet(t->header, FOUR(in, ARCHIVE), BYTES(&more, ARCHIVE));
+    struct irr_sheet_reply want =
+        ref_sheet(t->header, FOUR(in, REFERENCE), BYTES(&more, REFERENCE));
+    if (JUDGE(SHEET, t, (uint32_t)buffer_len, 0, 0) == 0 && want.refusal == 0)
+        check_lines(t);
     return got.refusal;
 }

@@ -7,7 +7,9 @@
 
 #include "tables.h"
 
-enum call { INITIAL, EXPAND, RELOCATIONS, PLACE, PLACES, FIND, BIN_SIZE, ROOM, SAVE, LOAD, CALLS };
+enum call {
+    INITIAL, EXPAND, RELOCATIONS, PLACE, PLACES, FIND, BIN_SIZE, ROOM, SAVE, LOAD, SHEET, CALLS
+};
 
 void calls_open(uint64_t seed);
 
@@ -35,6 +37,7 @@ uint32_t compare_bin_size(const struct table *t, uint32_t bin);
 uint32_t compare_room(uint32_t expansions);
 uint32_t compare_save(const struct table *t, size_t buffer_len);
 uint32_t compare_load(const uint8_t *bytes, size_t length, uint32_t capacity, struct table *to);
+uint32_t compare_sheet(const struct table *t, size_t buffer_len);
 
 /* whether, from now on, no array that is lent is too short */
 void calls_lend_enough(int enough);

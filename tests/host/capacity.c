@@ -16,11 +16,11 @@ struct table {
     uint32_t ends[IRR_MAX_INTERVALS], blocks[IRR_MAX_INTERVALS], adjustments[IRR_MAX_INTERVALS];
 };
 
-/* all that is lent: a table to read, one to write, rows, a list, places, a file */
+/* all that is lent: a table to read, one to write, rows, a list, places, a file, a sheet */
 struct lent {
     struct table old, new;
     uint32_t rows[IRR_ROW * ROWS], list[LISTED], places[2 * LISTED];
-    uint8_t file[48];
+    uint8_t file[48], sheet[2 * IRR_LINE + 10];
 };
 
 static struct lent lent, kept;
@@ -33,6 +33,7 @@ static int checks, faults;
 #define NEW ARRAYS(lent.new, IRR_MAX_BLOCKS)
 #define SHORT_NEW ARRAYS(lent.new, IRR_MAX_BLOCKS - 1)
 #define FILE_OF(length) lent.file, length
+#define SHEET_OF(length) lent.sheet, length
 
 /* the n numbers at `got` against those expected, and whether the memory is as it should be */
 static void judge(const char *what, const uint32_t *got, const uint32_t *want, size_t n, int memory)
@@ -158,6 +159,9 @@ static void check_all_refuse(uint32_t refusal)
     REFUSED(refusal, irr_bin_size(OLD, UINT32_MAX));
     REFUSED(refusal, irr_save(OLD, FILE_OF(sizeof lent.file)));
     REFUSED(refusal, irr_save(OLD, FILE_OF(3)));
+    REFUSED(refusal, irr_sheet(OLD, SHEET_OF(sizeof lent.sheet)));
+    REFUSED(refusal, irr_sheet(OLD, SHEET_OF(IRR_LINE - 1)));
+    REFUSED(refusal, irr_sheet(OLD, NULL, 0));
     REFUSED(refusal, irr_expand(OLD, 100, 50, NEW));
     REFUSED(refusal, irr_expand(OLD, 0, 0, NEW));
     REFUSED(refusal, irr_expand(OLD, 1000, 3, NEW));
@@ -191,10 +195,16 @@ static void check_lent_right(uint32_t capacity)
     ACCEPTED(irr_find(OLD, 1, 3), 7);
     ACCEPTED(irr_bin_size(OLD, 1), 5);
     ACCEPTED(irr_save(OLD, FILE_OF(24)), 24);
+    ACCEPTED(irr_sheet(OLD, SHEET_OF(IRR_LINE)), IRR_LINE);
+    REFUSED(34, irr_sheet(OLD, SHEET_OF(IRR_LINE - 1)));
+    REFUSED(34, irr_sheet(OLD, NULL, 0));
     ACCEPTED(irr_expand(OLD, 12, 3, NEW), 2, 12, capacity, 2, 2);
     ACCEPTED(irr_relocations(OLD, 12, 3, 0, lent.rows, IRR_ROW * ROWS), 2, 2);
     lend_grown(capacity);
     ACCEPTED(irr_bin_size(OLD, 2), 4);
+    ACCEPTED(irr_sheet(OLD, SHEET_OF(2 * IRR_LINE)), 2 * IRR_LINE);
+    REFUSED(34, irr_sheet(OLD, SHEET_OF(2 * IRR_LINE - 1)));
+    REFUSED(34, irr_sheet(OLD, SHEET_OF(IRR_LINE)));
 }
 
 /* 11 to 16 come before 30 */

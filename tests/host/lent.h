@@ -9,7 +9,7 @@
 #include <stddef.h>
 #include <stdint.h>
 
-enum { GUARD = 16, LENT_BYTES = 1 << 16 };
+enum { GUARD = 16, LENT_BYTES = 1 << 17 };
 
 enum side { ARCHIVE, REFERENCE };
 

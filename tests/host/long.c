@@ -68,6 +68,19 @@ static void check_lists(struct irr_header h)
     want("its position", array(5)[1], 3);
 }
 
+/* a sheet of one line, into lengths whose low 32 bits are too short for it */
+static void check_sheet(struct irr_header h)
+{
+    struct irr_sheet_reply sheet = irr_sheet(h, FOUR(huge), memory[5], huge);
+    want("irr_sheet into 2^32 bytes, refusal", sheet.refusal, 0);
+    want("its length", sheet.length, IRR_LINE);
+    want("the last digit of its last bucket", memory[5][19], '9');
+    want("irr_sheet into 2^32 bytes and a line but for 1, refusal",
+         irr_sheet(h, FOUR(huge), memory[5], huge + IRR_LINE - 1).refusal, 0);
+    want("irr_sheet into a line but for 1, refusal",
+         irr_sheet(h, FOUR(huge), memory[5], IRR_LINE - 1).refusal, IRR_SHEET_SHORT);
+}
+
 int main(void)
 {
     if (!reserve()) {
@@ -85,6 +98,7 @@ int main(void)
     want("irr_relocations into 4 numbers more than 2^32, written",
          irr_relocations(h, FOUR(huge + 1), 10, 3, 2, array(4), huge + 4).written, 1);
     check_lists(h);
+    check_sheet(h);
     struct irr_save_reply saved = irr_save(h, FOUR(huge), memory[4], huge);
     want("irr_save, length", saved.length, 24);
     want("irr_load of 2^32 bytes too many", irr_load(memory[4], huge + 24, 5, FOUR(huge)).refusal,

@@ -1,6 +1,9 @@
-/* The ten calls written from documents 01 and 02, simple rather than fast; arithmetic is in
+/* The eleven calls written from documents 01 and 02, simple rather than fast; arithmetic is in
  * int64_t. */
 #include "reference.h"
+
+#include <stdio.h>
+#include <string.h>
 
 enum {
     MOST_BUCKETS = 1000000000,
@@ -8,6 +11,7 @@ enum {
     MOST_BINS = 65535,
     MOST_BLOCKS = 65,
     MOST_INTERVALS = 2081,
+    LINE_BYTES = 51,
     /* a growth parts each interval in two at most, or adds one a block */
     MOST_GROWN = 2 * MOST_INTERVALS + MOST_BLOCKS + 2
 };
@@ -493,7 +497,7 @@ static void write_map(const struct map *m, uint32_t *tops, uint32_t *ends, uint3
     }
 }
 
-/* THE TEN CALLS */
+/* THE ELEVEN CALLS */
 
 static struct map before, after;
 
@@ -765,5 +769,38 @@ struct irr_load_reply ref_load(const uint8_t *bytes, size_t bytes_len, uint32_t 
     reply.header.capacity = (uint32_t)v.capacity;
     reply.header.block_count = (uint32_t)v.block_count;
     reply.header.interval_count = (uint32_t)v.interval_count;
+    return reply;
+}
+
+/* THE RACK SHEET */
+
+/* the line of interval i */
+static void put_line(const struct map *m, int64_t i, uint8_t *to)
+{
+    const struct span *s = &m->spans[i];
+    char line[LINE_BYTES + 1];
+    snprintf(line, sizeof line, "%10u%10u%10u%10u%10u\n", (unsigned)s->start,
+             (unsigned)(s->end - 1), (unsigned)s->block, (unsigned)first_bin(m, s->block),
+             (unsigned)bins_of(m, s->block));
+    memcpy(to, line, LINE_BYTES);
+}
+
+struct irr_sheet_reply ref_sheet(struct irr_header header, REF_TABLE, uint8_t *buffer,
+                                 size_t buffer_len)
+{
+    struct irr_sheet_reply reply = {0, 0};
+    struct view v = VIEW;
+    reply.refusal = table_refusal(&v);
+    if (reply.refusal != 0)
+        return reply;
+    int64_t length = LINE_BYTES * v.interval_count;
+    if (buffer_len < (size_t)length) {
+        reply.refusal = 34;
+        return reply;
+    }
+    read_map(&v, &before);
+    for (int64_t i = 0; i < before.interval_count; i++)
+        put_line(&before, i, buffer + LINE_BYTES * i);
+    reply.length = (uint32_t)length;
     return reply;
 }

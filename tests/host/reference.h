@@ -1,4 +1,4 @@
-/* The ten calls written from documents 01 and 02, plainly: each ref_ call answers what irr_
+/* The eleven calls written from documents 01 and 02, plainly: each ref_ call answers what irr_
  * should. */
 #ifndef REFERENCE_H
 #define REFERENCE_H
@@ -32,6 +32,8 @@ struct irr_save_reply ref_save(struct irr_header header, REF_TABLE, uint8_t *buf
                                size_t buffer_len);
 struct irr_load_reply ref_load(const uint8_t *bytes, size_t bytes_len, uint32_t capacity,
                                REF_ROOM);
+struct irr_sheet_reply ref_sheet(struct irr_header header, REF_TABLE, uint8_t *buffer,
+                                 size_t buffer_len);
 
 /* what block j of the given tops is due in a map of `buckets` in `bins`: the sum over its bins */
 int64_t ref_due_of_block(int64_t buckets, int64_t bins, const uint32_t *tops, int64_t j);

@@ -183,10 +183,17 @@ static void try_save(const struct table *t)
     compare_save(t, ONE_OF(exact, exact, exact, exact + 5, exact - 1, 0, less, more));
 }
 
+static void try_sheet(const struct table *t)
+{
+    uint32_t exact = IRR_LINE * t->intervals_len, less = below(exact), more = exact + below(120);
+    compare_sheet(t, ONE_OF(exact, exact, exact, exact + 1, exact + IRR_LINE, exact - 1,
+                            exact - IRR_LINE, 0, less, more));
+}
+
 void round_of_calls(const struct table *t, int times)
 {
     for (int i = 0; i < times; i++) {
-        switch (below(9)) {
+        switch (below(10)) {
         case 0: try_expand(t); break;
         case 1: try_expand(t); break;
         case 2: try_relocations(t); break;
@@ -195,7 +202,8 @@ void round_of_calls(const struct table *t, int times)
         case 5: try_places(t); break;
         case 6: try_find(t); break;
         case 7: try_bin_size(t); break;
-        default: try_save(t);
+        case 8: try_save(t); break;
+        default: try_sheet(t);
         }
     }
 }

@@ -1,5 +1,5 @@
 #!/bin/sh
-# The host tests: the header alone in C and C++, the symbols of the archive, the example, abi, capacity, long and compare; the
+# The host tests: the header alone in C and C++, the symbols of the archive, the examples, abi, capacity, long and compare; the
 # programs a second time under the sanitizers of addresses and of undefined behaviour, which see the tests' code and not the
 # archive's. Takes ARCHIVE, OUT, CC, CXX, CPPFLAGS, CFLAGS, LDFLAGS and LDLIBS from the environment. The status is 0 if none failed.
 set -u
@@ -20,9 +20,9 @@ header() {
     $1 ${CPPFLAGS:-} "-std=$3" -fsyntax-only -pedantic -Wall -Wextra -Werror -x "$2" include/irr.h
 }
 
-# the archive has the ten calls of the header, and no other symbol that a program could meet
+# the archive has the eleven calls of the header, and no other symbol that a program could meet
 symbols() {
-    for call in bin_size expand find initial load place places relocations room save; do
+    for call in bin_size expand find initial load place places relocations room save sheet; do
         echo "T irr_$call"
     done > "$OUT/calls"
     nm -g --defined-only "$ARCHIVE" > "$OUT/symbols" || return 1
@@ -60,6 +60,57 @@ example() {
     build rack "$1" examples/rack.c && "$OUT/rack" > "$OUT/rack.stdout" && diff examples/rack.stdout "$OUT/rack.stdout"
 }
 
+# the sheet example refuses its input, the file $2, with the line $1: nothing else is printed, and the status is 1
+refuses() {
+    "$OUT/sheet" < "$2" > "$OUT/sheet.stdout" 2> "$OUT/sheet.stderr"
+    [ $? = 1 ] && [ ! -s "$OUT/sheet.stdout" ] && echo "$1" | diff - "$OUT/sheet.stderr"
+}
+
+# and with the line $1 the stored map whose byte at $2 is $3, in octal
+refuses_byte() {
+    cp examples/rack14.map "$OUT/byte.map" &&
+        printf '%b' "\\0$3" | dd bs=1 seek="$2" conv=notrunc of="$OUT/byte.map" 2> /dev/null && refuses "$1" "$OUT/byte.map"
+}
+
+# the saved form, in octal, of a map at both limits: 2,081 buckets in 65 blocks of one bin, an interval for each bucket
+largest() {
+    awk 'function put(n, i) { for (i = 0; i < 4; i++) { printf "\\0%03o", n % 256; n = int(n / 256) } }
+        BEGIN { put(2081); put(65); put(2081); for (i = 1; i <= 65; i++) put(i); for (i = 1; i <= 2081; i++) put(i)
+            for (i = 0; i < 2081; i++) put(i % 65) }'
+}
+
+# the sheet example refuses what is left of a map after harm
+harmed() {
+    map=examples/rack14.map file=$OUT/harmed.map
+    count='refused 11: B or a count outside its limits, or a file of another length'
+    : > "$file" && refuses "$count" "$file" || return 1
+    dd bs=1 count=67 2> /dev/null < "$map" > "$file" && refuses "$count" "$file" || return 1
+    { cat "$map" && printf x; } > "$file" && refuses "$count" "$file" || return 1
+    { cat "$OUT/largest.map" && printf x; } > "$file" && refuses "$count" "$file" || return 1
+    refuses_byte "refused 12: tops that don't rise strictly, a first of 0, or a last above 65,535 or above B" 16 2 &&
+        refuses_byte "refused 13: ends that don't rise strictly, a first of 0, or a last other than B" 44 17 &&
+        refuses_byte "refused 14: an interval's block not below the number of blocks" 52 4 &&
+        refuses_byte "refused 15: a block whose intervals hold another number than its due" 52 1
+}
+
+# the sheet example fails, and says so, where it cannot read or write
+closed() {
+    "$OUT/sheet" <&- > "$OUT/sheet.stdout" 2> "$OUT/sheet.stderr"
+    [ $? = 1 ] && [ ! -s "$OUT/sheet.stdout" ] && grep -q '^sheet: standard input: ' "$OUT/sheet.stderr" || return 1
+    "$OUT/sheet" < examples/rack14.map >&- 2> "$OUT/sheet.stderr"
+    [ $? = 1 ] && grep -q '^sheet: standard output: ' "$OUT/sheet.stderr"
+}
+
+# builds the sheet example with the flags $1, and runs it on the stored map, on a map at its limits, on harmed files
+# and with its input or output closed
+sheet() {
+    build sheet "$1" examples/sheet.c && "$OUT/sheet" < examples/rack14.map > "$OUT/sheet.stdout" &&
+        diff examples/sheet.stdout "$OUT/sheet.stdout" || return 1
+    printf '%b' "$(largest)" > "$OUT/largest.map"
+    awk 'BEGIN { for (i = 0; i < 2081; i++) printf "%10d%10d%10d%10d%10d\n", i, i, i % 65, i % 65, 1 }' > "$OUT/largest.stdout"
+    "$OUT/sheet" < "$OUT/largest.map" | cmp - "$OUT/largest.stdout" && harmed && closed
+}
+
 # whether a program can be built and run under the sanitizers here
 can_sanitize() {
     echo 'int main(void) { return 0; }' > "$OUT/nothing.c"
@@ -78,12 +129,14 @@ try "symbols" symbols
 try "no state" stateless
 COMPARE='compare rounds buckets calls tables lent random reference directory'
 try "example" example ""
+try "sheet example" sheet ""
 try "abi" host abi "" abi
 try "capacity" host capacity "" capacity
 try "long" host long "" long
 # shellcheck disable=SC2086
 try "compare" host compare "" $COMPARE
 try "example, sanitized" sanitized example "$SANITIZE"
+try "sheet example, sanitized" sanitized sheet "$SANITIZE"
 try "abi, sanitized" sanitized host abi "$SANITIZE" abi
 try "capacity, sanitized" sanitized host capacity "$SANITIZE" capacity
 try "long, sanitized" sanitized host long "$SANITIZE" long

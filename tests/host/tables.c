@@ -1,6 +1,7 @@
 /* Tables for the tests. */
 #include "tables.h"
 
+#include <stdlib.h>
 #include <string.h>
 
 #include "random.h"
@@ -307,4 +308,19 @@ size_t table_encode(const struct table *t, uint8_t *bytes)
     for (uint32_t i = 0; i < t->intervals_len; i++)
         at = put(at, t->blocks[i]);
     return (size_t)(at - bytes);
+}
+
+/* A LINE OF A SHEET */
+
+int line_read(const uint8_t *line, uint32_t *numbers)
+{
+    for (int i = 0; i < FIELDS; i++) {
+        char field[11] = "";
+        memcpy(field, line + 10 * i, 10);
+        size_t blanks = strspn(field, " "), digits = strspn(field + blanks, "0123456789");
+        if (digits == 0 || blanks + digits != 10)
+            return 0;
+        numbers[i] = (uint32_t)strtoul(field + blanks, NULL, 10);
+    }
+    return line[10 * FIELDS] == '\n';
 }

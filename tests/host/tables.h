@@ -4,7 +4,7 @@
 
 #include "irr.h"
 
-enum { TABLE_TOPS = IRR_MAX_BLOCKS + 1, TABLE_INTERVALS = IRR_MAX_INTERVALS + 1 };
+enum { TABLE_TOPS = IRR_MAX_BLOCKS + 1, TABLE_INTERVALS = IRR_MAX_INTERVALS + 1, FIELDS = 5 };
 
 struct table {
     struct irr_header header;
@@ -45,5 +45,9 @@ void table_damage(struct table *t);
 
 /* the saved form, unchecked; answers its length */
 size_t table_encode(const struct table *t, uint8_t *bytes);
+
+/* the numbers of a line of a sheet; answers whether it is FIELDS of 10 columns, each a number with
+ * nothing but blanks before it, and a line feed */
+int line_read(const uint8_t *line, uint32_t *numbers);
 
 #endif

@@ -8,14 +8,15 @@ use native.Mathlib.Nat.{zero-add, le-refl, le-of-lt, mod-lt}
 use native.Mathlib.Omega.{arith}
 use lib.ListN.{length, getD, take, length-append, length-replicate, getD-replicate, List·getD-append}
 use lib.Seq.{take-at, drop-at, getD-append-add, getD-take, take-length}
-use borrow.Author.Tests.{le-ltb, eq-eqb, ne-eqb}
+use borrow.Author.Tests.{lt-ltb, le-ltb, ne-eqb}
 use Rattle.model.specs.Basics.{if_then_else_, from, joined, before}
 use Rattle.model.specs.Decimal.{digitsOnly, decimal}
 use Rattle.model.specs.Table.{Arrays, arrays, table, firstBin, blockBins}
 use Rattle.model.specs.Place.{blockOf, bin}
+use Rattle.model.specs.Refusal.{first}
 use Rattle.model.specs.Search.{intervalAt}
 use Rattle.model.specs.Sound.{Formed, Sound}
-use Rattle.model.specs.Sheet.{blanks, field, sheetLine, intervalNumbers, sheet, sheetLength}
+use Rattle.model.specs.Sheet.{blanks, field, sheetLine, intervalNumbers, sheet, sheetLength, sheetShort}
 use Rattle.model.specs.Calls.{tableTests, sheetTests, sheetRefusal, sheetAnswer, sheetAfter, sheetReply, sheetBytes}
 use Rattle.model.specs.Console.{inFront, linesOf}
 use Rattle.model.specs.SheetClaims.{
@@ -26,6 +27,7 @@ use Rattle.model.specs.SheetClaims.{
   FieldWidth,
   FieldBlanks,
   SheetFits,
+  SheetLast,
   SheetLength,
   sheetText,
   SheetRead,
@@ -39,7 +41,7 @@ use Rattle.model.proofs.Decimals.{decimal-short, decimal-few, decimal-s
 use Rattle.model.proofs.Mapped.{mapped-length}
 use Rattle.model.proofs.Parts.{parts-length}
 use Rattle.model.proofs.Intervals.{before-mono, block-at}
-use Rattle.model.proofs.Refusals.{first-after, first-pass, first-none, accepted}
+use Rattle.model.proofs.Refusals.{first-found, first-after, first-here, first-other, first-pass, first-none, accepted}
 use Rattle.model.proofs.Tables.{length-from, getD-from, from-ext, map-from, take-over, before-same, lentInterval}
 use Rattle.model.proofs.Rows.{end-within, lent-place}
 use Rattle.model.proofs.Soundness.{sound-iff, table-numbered}
@@ -272,11 +274,49 @@ sheet-same h t e b c c′ s =
 
 -- THE CALL
 
+-- no table is refused by 34
+table-not : (h : Header) (a : Arrays) → first (tableTests h a) ≡ 34 → ⊥
+unfolding tableTests
+table-not h a e =
+    let (sizes, e₁) = first-other 11 34 _ _ (λ z. omega arith) e in
+    let (tops, e₂) = first-other 12 34 _ _ (λ z. omega arith) e₁ in
+    let (ends, e₃) = first-other 13 34 _ _ (λ z. omega arith) e₂ in
+    let (blocks, e₄) = first-other 14 34 _ _ (λ z. omega arith) e₃ in
+    let (holdings, e₅) = first-other 15 34 _ _ (λ z. omega arith) e₄ in
+    let (adjustments, e₆) = first-other 16 34 _ _ (λ z. omega arith) e₅ in
+    let (capacity, e₇) = first-other 30 34 _ _ (λ z. omega arith) e₆ in
+    omega (arith, e₇, first-none)
+
+pub sheet-last : SheetLast
+unfolding sheetRefusal sheetTests sheetLength
+sheet-last h a buffer = (refused, answered)
+  where
+    short : first (sheetTests h buffer) ≡ 34 → length buffer < 51 * h .«interval_count»
+    short e =
+        ⊎-elim
+        (λ l. l)
+        (λ l. absurd (omega (arith, e, first-pass (34, sheetShort h buffer) [] (le-ltb _ _ l) first-none)))
+        (below-or (length buffer) (51 * h .«interval_count»))
+
+    refused : first (tableTests h a ++ sheetTests h buffer) ≡ 34 → Sound h a × (length buffer < 51 * h .«interval_count»)
+    refused e =
+        ⊎-elim
+        (λ z.
+        let none : first (tableTests h a) ≡ 0 = omega (arith, z) in
+        (sound-iff h a .0 none, short (sym (first-after (tableTests h a) _ (table-numbered h a) none) ∙ e)))
+        (λ n. absurd (table-not h a (sym (first-found (tableTests h a) _ (λ z. omega (arith, z, n))) ∙ e)))
+        (below-or (first (tableTests h a)) 1)
+
+    answered : Sound h a × (length buffer < 51 * h .«interval_count») → first (tableTests h a ++ sheetTests h buffer) ≡ 34
+    answered (sound, l) =
+        first-after (tableTests h a) _ (table-numbered h a) (sound-iff h a .1 sound)
+        ∙ first-here (34, sheetShort h buffer) [] (lt-ltb _ _ l)
+
 module _ (h : Header) (a : Arrays) (buffer : List ℕ) (s : Sound h a) (room : SheetFits h buffer) where
   sheet-accepted : sheetRefusal h a buffer ≡ 0
   unfolding sheetRefusal sheetTests sheetLength
   sheet-accepted =
-      first-after (tableTests h a) _ (table-numbered h a) (sound-iff h a .1 s) ∙ first-pass _ _ (le-ltb _ _ room) first-none
+      first-after (tableTests h a) _ (table-numbered h a) (sound-iff h a .1 s) ∙ first-pass (34, sheetShort h buffer) [] (le-ltb _ _ room) first-none
 
   sheet-reply : sheetReply h a buffer ≡ record { refusal = 0; length = sheetLength (h .«interval_count») }
   unfolding sheetReply sheetAnswer

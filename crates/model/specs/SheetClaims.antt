@@ -4,7 +4,7 @@ use mathlib.Core.Path.{_≡_}
 use mathlib.Core.Logic.{_↔_}
 use mathlib.Core.Bool.{true}
 use mathlib.Core.List.{List, [], _∷_}
-use lib.ListN.{length, getD, take, drop}
+use lib.ListN.{length, getD, take, drop, replicate}
 use lib.Dec.{eqb}
 use Rattle.model.specs.Basics.{if_then_else_, before}
 use Rattle.model.specs.Decimal.{digitsOnly, value}
@@ -13,8 +13,9 @@ use Rattle.model.specs.Table.{sizes, Arrays, table}
 use Rattle.model.specs.Place.{blockOf, bin}
 use Rattle.model.specs.Sound.{Sound}
 use Rattle.model.specs.Sheet.{field, sheetLine, intervalNumbers, sheet}
-use Rattle.model.specs.Calls.{sheetReply, sheetBytes}
+use Rattle.model.specs.Calls.{sheetRefusal, sheetReply, sheetBytes}
 use Rattle.model.specs.Console.{text, linesOf}
+use Rattle.model.specs.TableClaims.{withCapacity}
 use Rattle.model.specs.Figures.{blank, grown}
 use Rattle.model.specs.History.{State, started}
 use Rattle.model.specs.declared.table.Header.{Header}
@@ -58,6 +59,12 @@ FieldBlanks =
 -- there is room in a buffer for the sheet of the header's k intervals
 abbrev pub SheetFits : Header → List ℕ → Type 0
 SheetFits h buffer = 51 * h .«interval_count» ≤ length buffer
+
+-- 34 is answered exactly where the table is sound and there is none
+abbrev pub SheetLast : Type 0
+SheetLast =
+    (h : Header) (a : Arrays) (buffer : List ℕ)
+    → (sheetRefusal h a buffer ≡ 34) ↔ (Sound h a × (length buffer < 51 * h .«interval_count»))
 
 -- a sound table's sheet is written into any buffer with room. Its lines have 51 characters each, and it has as many as the reply says.
 abbrev pub SheetLength : Type 0
@@ -116,10 +123,19 @@ SheetExample =
     ≡ text
     "         0         5         0         0         2\n         6         6         3         4         1\n         7         9         1         2         1\n        10        10         3         4         1\n        11        13         2         3         1\n"
 
+-- 255 bytes are enough for it and 254 are not, which 34 says; with P = 0 it is refused by 30 all the same
+abbrev pub SheetEdges : Type 0
+SheetEdges =
+    (sheetRefusal (example .header) (example .arrays) (replicate 255 0) ≡ 0)
+    × (sheetRefusal (example .header) (example .arrays) (replicate 254 0) ≡ 34)
+    × (sheetRefusal (withCapacity 0 (example .header)) (example .arrays) (replicate 254 0) ≡ 30)
+
 pub record SheetClaims : Type 0 where
   pub fieldWidth : FieldWidth
   pub fieldBlanks : FieldBlanks
+  pub sheetLast : SheetLast
   pub sheetLength : SheetLength
   pub sheetRead : SheetRead
   pub sheetPlaces : SheetPlaces
   pub sheetExample : SheetExample
+  pub sheetEdges : SheetEdges

@@ -132,10 +132,10 @@ fn write_many(h: Header, tops: &[u32], ends: &[u32], blocks: &[u32], out: &mut [
     put_pairs(&mut pairs);
     let mut tails = [0u8; TAILS];
     write_tails(h, tops, &mut tails);
-    let count = h.interval_count as usize;
+    let lines = h.interval_count as usize;
     let mut start: u32 = 0;
     let mut i: usize = 0;
-    while i < count {
+    while i < lines {
         let end = ends[i];
         copy_tail(&tails, TAIL * blocks[i] as usize, out, LINE * i + HEAD - 1);
         copy_head(&pairs, start, end, out, LINE * i);

@@ -18,11 +18,11 @@ use Rattle.sheet.proofs.write_many.Statement.{statement}
 use Rattle.sheet.proofs.write_many.Tie as tie
 
 abbrev Inv-loop : tie.InvT-loop
-Inv-loop tops ends blocks out₀ pairs tails count start₀ i₀ out start i =
-    (i ≤ count) × (start ≡ before ends i) × Put 0 (51 * i) (joined (from (lentLine (arrays tops ends blocks [])) 0 i)) out₀ out
+Inv-loop tops ends blocks out₀ pairs tails lines start₀ i₀ out start i =
+    (i ≤ lines) × (start ≡ before ends i) × Put 0 (51 * i) (joined (from (lentLine (arrays tops ends blocks [])) 0 i)) out₀ out
 
 abbrev μ-loop : tie.MeasureT-loop
-μ-loop tops ends blocks out₀ pairs tails count start₀ i₀ out start i = count - i
+μ-loop tops ends blocks out₀ pairs tails lines start₀ i₀ out start i = lines - i
 
 slice-aggregate-put-pairs : tie.Need-slice-aggregate-put-pairs Inv-loop μ-loop
 slice-aggregate-put-pairs c = search needs
@@ -38,8 +38,8 @@ write-tails-requires c κs =
     let start = c .before .before .before .before .before .before .before .before in
     (record { ends = _; blocks = _; adjustments = _; formed = start .pre .0 .formed }, omega arith)
 
-cast-count : tie.Need-cast-count Inv-loop μ-loop
-cast-count c = omega arith
+cast-lines : tie.Need-cast-lines Inv-loop μ-loop
+cast-lines c = omega arith
 
 loop-holds : tie.Need-loop-holds Inv-loop μ-loop
 unfolding from joined before
@@ -153,7 +153,7 @@ write-many-spec =
     put-pairs-requires
     slice-aggregate-write-tails
     write-tails-requires
-    cast-count
+    cast-lines
     loop-holds
     mul-end
     shared-slice-read-end
