@@ -6,6 +6,7 @@ mod list;
 mod long;
 mod print;
 mod read;
+mod sheet;
 
 fn main() {
     fresh::sizes();
@@ -15,6 +16,7 @@ fn main() {
     read::map_3();
     read::map_5();
     list::lists();
+    sheet::sheets();
     lent::tables();
     long::tables();
     long::growths();

@@ -7,6 +7,7 @@ use crate::directory::SIZE;
 use crate::directory::get;
 use crate::file;
 use crate::list;
+use crate::sheet;
 use crate::state::State;
 use crate::state::same;
 use crate::total::NONE;
@@ -18,7 +19,7 @@ use crate::total::quotient;
 use model::table::Header;
 ghost use Prim.Native.Nat.{_<_, _≤_};
 
-// A map whole, lists of its buckets, its file, and the first bucket and the first bin that there are not.
+// A map whole, lists of its buckets, its file, its sheet, and the first bucket and the first bin that there are not.
 pub fn map(h: Header, tops: &[u32; 65], rest: &[[u32; 2081]; 3], d: &Directory, s: State) -> State {
     let tops = &tops[..];
     let ends = &rest[0][..];
@@ -28,6 +29,7 @@ pub fn map(h: Header, tops: &[u32; 65], rest: &[[u32; 2081]; 3], d: &Directory, 
     let s = bins(h, tops, ends, blocks, adjustments, d, s.bins, s);
     let s = list::lists(h, tops, ends, blocks, adjustments, d, s);
     let s = file::files(h, tops, ends, blocks, adjustments, d, s);
+    let s = sheet::sheets(h, tops, ends, blocks, adjustments, d, s);
     let s = place(h, tops, ends, blocks, adjustments, s.buckets, 6, 0, 0, s);
     find(h, tops, ends, blocks, adjustments, s.bins, 0, 7, 0, s)
 }

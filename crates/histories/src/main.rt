@@ -7,6 +7,7 @@ mod file;
 mod history;
 mod list;
 mod print;
+mod sheet;
 mod state;
 mod total;
 
@@ -117,6 +118,7 @@ fn print_comparisons(s: State) {
     line(b"rows", s.rows_seen);
     line(b"listed buckets", s.listed_seen);
     line(b"files", s.files_seen);
+    line(b"lines", s.lines_seen);
     line(b"comparisons", s.compared);
     line(b"failed", s.failed);
 }
@@ -132,6 +134,7 @@ fn main() {
         rows_seen: 0,
         listed_seen: 0,
         files_seen: 0,
+        lines_seen: 0,
         compared: 0,
         failed: 0,
         seed: 20_261_115,

@@ -14,6 +14,7 @@ pub struct State {
     pub rows_seen: u32,
     pub listed_seen: u32,
     pub files_seen: u32,
+    pub lines_seen: u32,
     pub compared: u32,
     pub failed: u32,
     pub seed: u32,
