@@ -34,7 +34,7 @@ const TAILS: usize = 2_080;
 // All pairs of digits.
 const PAIRS: usize = 200;
 
-// For so many intervals it pays to write each block's tail once.
+// For so many intervals it pays to fill a table of pairs, and to write each block's tail once.
 const MANY: u32 = 128;
 
 // The head of a line.
