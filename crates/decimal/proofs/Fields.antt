@@ -1,6 +1,6 @@
 -- Laws of a number's digits in a field: with zeros before them, with blanks in their place, and stored up to a place. Assumes nothing.
 use Prim.Native.Nat.{ℕ, zero, suc, _+_, _-_, _/_, _%_, _≤_, _<_}
-use mathlib.Core.Path.{_≡_, refl, sym, _∙_, ap, subst}
+use mathlib.Core.Path.{_≡_, refl, sym, _∙_, ap}
 use mathlib.Core.Logic.{inr, ⊎-elim}
 use mathlib.Core.List.{List, [], _∷_, _++_, append-nil, append-assoc}
 use native.Mathlib.Nat.{add-zero, zero-add}
@@ -14,7 +14,7 @@ use Rattle.model.proofs.Decimals.{decimal-one, decimal-short, decimal-few, deci
 use Rattle.model.proofs.Entries.{sets-swap, sets-more, Put, put-none, put-more}
 use Rattle.decimal.specs.Parts.{pairOf, fourOf}
 use Rattle.decimal.proofs.Pairs.{decimal-two, decimal-pair}
-use Rattle.decimal.proofs.Leading.{Lead, four-high, four-low, lead-ten}
+use Rattle.decimal.proofs.Leading.{four-high, four-low, lead-ten}
 
 -- ZEROS BEFORE THE DIGITS
 

@@ -3,16 +3,16 @@ use Prim.Native.Nat.{ℕ, zero, suc, _+_, _-_, _*_, _^_, _≤_, _<_}
 use mathlib.Core.Path.{_≡_, refl, sym, _∙_, ap, ap₂}
 use mathlib.Core.Logic.{⊎-elim}
 use mathlib.Core.Bool.{true}
-use mathlib.Core.List.{List, [], _∷_, _++_, map, append-nil, append-assoc}
+use mathlib.Core.List.{List, [], _∷_, _++_, map, append-assoc}
 use native.Mathlib.Nat.{zero-add, le-refl, le-of-lt, mod-lt}
 use native.Mathlib.Omega.{arith}
 use lib.ListN.{length, getD, take, length-append, length-replicate, getD-replicate, List·getD-append}
-use lib.Seq.{take-at, drop-at, getD-append-add, getD-take, take-length}
+use lib.Seq.{take-at, drop-at, getD-append-add, getD-take}
 use borrow.Author.Tests.{lt-ltb, le-ltb, ne-eqb}
 use Rattle.model.specs.Basics.{if_then_else_, from, joined, before}
 use Rattle.model.specs.Decimal.{digitsOnly, decimal}
 use Rattle.model.specs.Table.{Arrays, arrays, table, firstBin, blockBins}
-use Rattle.model.specs.Place.{blockOf, bin}
+use Rattle.model.specs.Place.{bin}
 use Rattle.model.specs.Refusal.{first}
 use Rattle.model.specs.Search.{intervalAt}
 use Rattle.model.specs.Sound.{Formed, Sound}

@@ -1,5 +1,5 @@
 -- `sheet::write_tails` meets its contract. The loop's invariant: the tails of the first j blocks are written. Assumes nothing.
-use Prim.Native.Nat.{_+_, _-_, _*_, _≤_}
+use Prim.Native.Nat.{_-_, _*_, _≤_}
 use mathlib.Core.Path.{_≡_, _∙_, ap}
 use native.Mathlib.Omega.{arith}
 use lib.ListN.{length-set}

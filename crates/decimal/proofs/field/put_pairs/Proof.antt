@@ -1,5 +1,5 @@
 -- `decimal::field::put_pairs` meets its contract. The loop's invariant: the pairs of the numbers below n are stored. Assumes nothing.
-use Prim.Native.Nat.{_+_, _-_, _*_, _≤_}
+use Prim.Native.Nat.{_-_, _*_, _≤_}
 use mathlib.Core.Path.{_≡_, refl, _∙_, ap}
 use native.Mathlib.Omega.{arith}
 use lib.Seq.{sets}
