@@ -251,8 +251,9 @@ pub record Ends (n stop end rest : ℕ) (old out : List ℕ) : Type 0 where
   pub holds : out ≡ sets old end last
 
 -- none yet
-pub ends-none : (n stop : ℕ) {old out : List ℕ} → out ≡ old → Ends n stop stop n old out
-ends-none n stop e = record { last = []; digits = sym (append-nil (decimal n)); place = add-zero stop; holds = e }
+pub ends-none : (n stop end : ℕ) (old : List ℕ) → end ≡ stop → Ends n stop end n old old
+ends-none n stop end old e =
+    record { last = []; digits = sym (append-nil (decimal n)); place = add-zero end ∙ e; holds = refl }
 
 module _ {n stop end rest : ℕ} {old out : List ℕ} (e : Ends n stop end rest old out) where
   -- those left fit before them

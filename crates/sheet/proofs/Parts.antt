@@ -18,7 +18,7 @@ use Rattle.model.specs.declared.table.Header.{Header}
 use Rattle.model.proofs.Counts.{below-or}
 use Rattle.model.proofs.Parts.{parts-length, part-at, joined-next}
 use Rattle.model.proofs.Rows.{end-within}
-use Rattle.model.proofs.Entries.{sets-swap, sets-over, Put, put-length, put-more, put-over}
+use Rattle.model.proofs.Entries.{sets-swap, sets-over, Put, put-none, put-length, put-more, put-over}
 use Rattle.model.proofs.Sheets.{field-length, lentLine, sheet-lent, top-within}
 use Rattle.sheet.specs.Lines.{headOf, tailOf, spacedTail, tailsOf}
 
@@ -44,6 +44,15 @@ tail-length tops j =
 
 pub regrouped : (w x y z : List ℕ) → w ++ x ++ y ++ z ≡ w ++ (x ++ (y ++ z))
 regrouped w x y z = simp append-assoc
+
+-- a head is two fields, one behind the other
+pub head-stored
+    : (start end at : ℕ) (old next done : List ℕ) → next ≡ sets old at (field start) → done ≡ sets next (at + 10) (field (end - 1))
+    → done ≡ sets old at (headOf start end)
+unfolding headOf
+head-stored start end at old next done e f =
+    let one = put-more (put-none at old) {o′ = at + 10} (field start) e (omega (arith, field-length start)) in
+    put-more one {o′ = at + 20} (field (end - 1)) f (omega (arith, field-length (end - 1))) .holds
 
 -- a line is its head and its tail
 pub line-parts

@@ -34,7 +34,7 @@ add-end c = search needs
 loop-holds : tie.Need-loop-holds Inv-loop μ-loop
 loop-holds c =
     let start = c .before .before .before .before .before .before in
-    (search needs, ends-none (start .args .n) (start .args .at + 10) refl)
+    (search needs, ends-none (start .args .n) (start .args .at + 10) _ _ (omega arith))
 
 sub-end : tie.Need-sub-end Inv-loop μ-loop
 sub-end c = ends-two (c .before .loop .inv .1) (omega arith) (omega arith)
