@@ -22,6 +22,7 @@ enum {
 	SHORT_PAGE = 64,
 	MANY_BUCKETS = 324999988, /* of the maps that are measured */
 	FEW_BUCKETS = 324988,     /* of one whose sheet has short numbers */
+	ONE_BIN_BUCKETS = IRR_MAX_CAPACITY - IRR_LABEL, /* the most in one bin */
 	LIST = 100000,     /* buckets of the longest list */
 	SHORT_LIST = 300,
 	ARGUMENTS = 1024,  /* a power of 2: the calls of a measurement go round them */
@@ -389,11 +390,13 @@ static void damage(struct map *m)
 	*entry = near(*entry);
 }
 
-/* A capacity for a map of these sizes: mostly that of its largest bin or a little more, or the
- * greatest. Sizes that are 0 or too many bins are refused whatever it is. */
+/* A capacity for a map of these sizes: mostly that of its largest bin and the label or a little
+ * more, or the greatest. Sizes that are 0 or too many bins are refused whatever it is. */
 static uint32_t capacity_for(uint32_t buckets, uint32_t bins)
 {
-	uint32_t least = bins == 0 ? 1 : buckets / bins + (buckets % bins > 0);
+	uint32_t largest = bins == 0 ? 1 : buckets / bins + (buckets % bins > 0);
+	uint32_t least = largest + IRR_LABEL;
+	const uint32_t edges[4] = {least, largest, IRR_LABEL, IRR_MAX_CAPACITY};
 
 	switch (below(4)) {
 	case 0:
@@ -403,7 +406,7 @@ static uint32_t capacity_for(uint32_t buckets, uint32_t bins)
 	case 2:
 		return IRR_MAX_CAPACITY;
 	default:
-		return near(below(4) ? least : IRR_MAX_CAPACITY);
+		return near(edges[below(4)]);
 	}
 }
 
@@ -462,7 +465,8 @@ static void ask_numbers(struct question *q, const struct map *m)
 		break;
 	default:
 		q->x = below(4) ? below(bins) : near(bins);
-		q->y = below(4) ? below(buckets / bins + 1) : near(buckets / bins);
+		q->y = below(4) ? IRR_LABEL + below(buckets / bins + 1) :
+		       near(below(2) ? IRR_LABEL + buckets / bins : below(IRR_LABEL + 1));
 	}
 }
 
@@ -519,6 +523,34 @@ static void compare_growths(const struct map *m)
 	for (uint32_t more = 0; more < 200; more++) {
 		q.x = m->header.buckets + more;
 		compare(&q);
+	}
+}
+
+/* Every call about maps of one bin that is nearly full, full or overfull, with the greatest
+ * capacity: fresh, lent and in a file, and growths by one bucket. */
+static void compare_one_bin(struct map m)
+{
+	for (uint32_t buckets = ONE_BIN_BUCKETS - 2; buckets <= IRR_MAX_BUCKETS; buckets++) {
+		const uint32_t x[CALL_COUNT] = {
+			[INITIAL] = buckets, [EXPAND] = buckets + 1, [RELOCATIONS] = buckets + 1,
+			[PLACE] = buckets - 1,
+		};
+		const uint32_t y[CALL_COUNT] = {
+			[INITIAL] = 1, [EXPAND] = 1, [RELOCATIONS] = 1,
+			[FIND] = IRR_LABEL + buckets - 1,
+		};
+		const uint32_t file[6] = {buckets, 1, 1, 1, buckets, 0};
+
+		m.header.buckets = m.ends[0] = buckets;
+		for (int call = 0; call < CALL_COUNT; call++) {
+			struct question q = full_question(call, &m);
+
+			q.x = x[call];
+			q.y = y[call];
+			q.bytes = (const uint8_t *)file;
+			q.bytes_length = sizeof file;
+			compare(&q);
+		}
 	}
 }
 
@@ -862,7 +894,7 @@ static struct work *add(enum call call, const struct map *m, const char *what)
 		uint32_t bins = bins_of(m);
 
 		w->x[i] = call == PLACE ? below(m->header.buckets) : below(bins);
-		w->y[i] = below(m->header.buckets / bins);
+		w->y[i] = IRR_LABEL + below(m->header.buckets / bins);
 		if (call == ROOM)
 			w->x[i] = below(65);
 		if (call == INITIAL) {
@@ -952,7 +984,7 @@ static void make_maps(void)
 	maps[THIRTY_TWO] = history(MANY_BUCKETS, 32);
 	maps[SIXTY_FOUR] = history(MANY_BUCKETS, 64);
 	maps[LARGEST] = largest();
-	maps[HALVED_ONE] = fresh(1000000000, 1);
+	maps[HALVED_ONE] = fresh(ONE_BIN_BUCKETS, 1);
 	maps[HALVED_TEN] = fresh(1000000000, 10);
 	maps[WIDEST] = fresh(999999999, 65535);
 	maps[SHORT_NUMBERS] = history(FEW_BUCKETS, 64);
@@ -1026,8 +1058,9 @@ static void print_histories(void)
 	printf("\nTables: a fresh map of 324,999,988 buckets in 100 bins (fresh), then one bin\n"
 	       "more at a time to 12, 32 and 64 blocks, and to 65 with one bucket more at the\n"
 	       "end (largest: %s intervals). \"1 bin to 2\" and \"10 bins to 20\" are growths\n"
-	       "of a fresh map of 1,000,000,000 buckets.\n",
-	       grouped(maps[LARGEST].header.interval_count));
+	       "of fresh maps of %s and of %s buckets.\n",
+	       grouped(maps[LARGEST].header.interval_count),
+	       grouped(maps[HALVED_ONE].header.buckets), grouped(maps[HALVED_TEN].header.buckets));
 }
 
 static void print_table(const char *title, const struct work *from, const struct work *to)
@@ -1132,6 +1165,7 @@ int main(int argc, char **argv)
 
 	compare_random(maps, MAP_COUNT);
 	compare_growths(&maps[LARGEST]);
+	compare_one_bin(maps[HALVED_ONE]);
 	for (size_t i = 0; i < work_count; i++)
 		compare_work(&works[i]);
 	printf("The same answers to %s questions, %s of them refused.\n",

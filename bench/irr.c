@@ -190,8 +190,8 @@ static inline __attribute__((always_inline)) uint32_t sums_refusal(const struct 
 	return holdings_wrong(t->header, t->share, t->tops, sums) ? 15 : 0;
 }
 
-/* 30: the capacity is 0 or above its limit, or below the size of the largest bin of a map of
- * which every bin has its due. */
+/* 30: the capacity is 0 or above its limit, or below the size of the largest bin plus the label,
+ * in a map of which every bin has its due. */
 static inline bool capacity_wrong(struct irr_header h, uint32_t bins)
 {
 	return outside(IRR_MAX_CAPACITY, h.capacity) || overfull(h.capacity, h.buckets, bins);
@@ -252,10 +252,10 @@ static void write_rows(const struct table *old, uint32_t i, uint32_t bucket, uin
 	uint32_t first = first_bin(old, old->blocks[i]), last = old->tops[old->blocks[i]] - 1;
 	uint32_t width = last - first + 1, rank = bucket - old->adjustments[i];
 	uint32_t new_first = bins_of(old), new_width = new_last - new_first + 1;
-	uint32_t position = rank / width;
+	uint32_t position = rank / width + IRR_LABEL;
 	uint64_t bucket_bin = pair(bucket, first + rank % width), last_bin = pair(0, last);
 	uint64_t step = pair(1, 1), wrap = step - pair(0, width);
-	uint64_t place = pair(new_first + order % new_width, order / new_width);
+	uint64_t place = pair(new_first + order % new_width, order / new_width + IRR_LABEL);
 	uint64_t new_wrap = pair(1, 1) - new_width;
 
 	/* In wide blocks, whole runs up to the next last bin. */
@@ -344,9 +344,11 @@ static inline uint32_t interval_from(const struct table *t, uint32_t i, uint32_t
 	return i;
 }
 
-static inline void put_place(uint32_t *restrict places, size_t n, uint32_t bin, uint32_t position)
+/* Writes the place of number n of the list: its bin, and the position that has so many positions
+ * of buckets below it. */
+static inline void put_place(uint32_t *restrict places, size_t n, uint32_t bin, uint32_t below)
 {
-	uint64_t place = pair(bin, position);
+	uint64_t place = pair(bin, below + IRR_LABEL);
 
 	memcpy(places + 2 * n, &place, sizeof place);
 }
@@ -368,9 +370,9 @@ static inline size_t place_run(const uint32_t *buckets, size_t n, size_t count, 
 	}
 	for (; n < count && buckets[n] < end; n++) {
 		uint32_t rank = buckets[n] - adjustment;
-		uint32_t position = (uint32_t)(((unsigned __int128)inverse * rank) >> 64);
+		uint32_t below = (uint32_t)(((unsigned __int128)inverse * rank) >> 64);
 
-		put_place(places, n, first + rank - position * size, position);
+		put_place(places, n, first + rank - below * size, below);
 	}
 	return n;
 }

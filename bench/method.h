@@ -2,8 +2,8 @@
  * and bench/rackmap.c (the program) have in common.
  *
  * Document 01's drawer, group and run are called bin, block and interval here, after
- * source 000. Numbers in comments are its refusals and those of document 02. All sizes, ranks
- * and sums stay below 2^32: a sum has at most two terms of at most 1,000,000,000 each.
+ * source 000. Numbers in comments are its refusals and those of document 02. All sizes, ranks,
+ * positions and sums stay below 2^32: a sum has at most two terms of at most 1,000,000,000 each.
  */
 #ifndef BENCH_METHOD_H
 #define BENCH_METHOD_H
@@ -108,11 +108,11 @@ static inline uint32_t size_refusal(uint32_t buckets, uint32_t bins)
 	return bins > buckets ? 2 : 0;
 }
 
-/* Whether some bin of a map of these sizes is due more than the capacity. The first is due the
- * most, B / n rounded up. */
+/* Whether some bin of a map of these sizes is due more than the capacity leaves beside the label.
+ * The first is due the most, B / n rounded up. */
 static inline bool overfull(uint32_t capacity, uint32_t buckets, uint32_t bins)
 {
-	return (uint64_t)capacity * bins < buckets;
+	return (uint64_t)capacity * bins < buckets + (uint64_t)IRR_LABEL * bins;
 }
 
 /* The refusal of the sizes of a fresh map: 1, 2, 31, or 0. */
@@ -419,7 +419,7 @@ static inline struct irr_place_reply placed(const struct table *t, uint32_t buck
 	uint32_t first = first_bin(t, t->blocks[i]);
 	uint32_t size = t->tops[t->blocks[i]] - first;
 
-	return place_reply(0, first + rank % size, rank / size);
+	return place_reply(0, first + rank % size, rank / size + IRR_LABEL);
 }
 
 /* The number of buckets in a bin below n: its due size. */
@@ -432,7 +432,11 @@ static inline uint32_t size_of_bin(const struct table *t, uint32_t bin)
 static inline struct irr_find_reply found(const struct table *t, uint32_t bin,
 					  uint32_t position)
 {
-	if (bin >= bins_of(t) || position >= size_of_bin(t, bin))
+	/* How many positions of buckets are below it; for one of the label the difference wraps,
+	 * and is above any size. */
+	uint32_t below = position - IRR_LABEL;
+
+	if (bin >= bins_of(t) || below >= size_of_bin(t, bin))
 		return (struct irr_find_reply){.refusal = 7};
 
 	uint32_t block = 0;
@@ -440,7 +444,7 @@ static inline struct irr_find_reply found(const struct table *t, uint32_t bin,
 		block += t->tops[j] <= bin;
 
 	uint32_t first = first_bin(t, block);
-	uint32_t rank = position * (t->tops[block] - first) + (bin - first);
+	uint32_t rank = below * (t->tops[block] - first) + (bin - first);
 
 	/* Ranks of a block rise from the left, and the position is one that the bin has, so
 	 * the loop ends at the interval that holds the rank. */

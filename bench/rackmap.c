@@ -219,7 +219,7 @@ static void moves(void)
 	struct table old = to_read(before), now = to_read(map);
 	uint32_t due[IRR_MAX_BLOCKS];
 	uint32_t new_first = bins_of(&old), new_top = bins_of(&now);
-	uint32_t new_bin = new_first, new_position = 0;
+	uint32_t new_bin = new_first, new_position = IRR_LABEL;
 	uint32_t start = 0;
 
 	due_sizes(&old, now.share, due);
@@ -235,7 +235,7 @@ static void moves(void)
 		uint32_t top = old.tops[old.blocks[i]];
 		uint32_t rank = cut - old.adjustments[i];
 		uint32_t bin = first + rank % (top - first);
-		uint32_t position = rank / (top - first);
+		uint32_t position = rank / (top - first) + IRR_LABEL;
 
 		for (uint32_t bucket = cut; bucket < end; bucket++) {
 			char *p = put_text(reply_room(), "move");

@@ -13,6 +13,8 @@ import time
 BUCKETS = 325_000_000
 BINS = 65
 WHERE_LINES = 2_000_000
+LABEL = 8  # positions of buckets start here
+MOST_IN_ONE = 999_999_992  # buckets that one bin takes
 
 
 # ---------------------------------------------------------------------- inputs
@@ -61,23 +63,34 @@ def mixed(rng, count):
         elif kind < 0.60:
             lines.append(b"where %d" % rng.randrange(0, buckets + 2))
         elif kind < 0.90:
-            position = rng.randrange(0, buckets // bins + 2)
+            position = rng.randrange(0, LABEL + buckets // bins + 2)
             lines.append(b"at %d %d" % (rng.randrange(0, bins + 1), position))
         elif kind < 0.93:
-            b = rng.choice([0, 1, 1_000_000_000, 1_000_000_001, 4_294_967_295])
+            b = rng.choice([0, 1, MOST_IN_ONE, 1_000_000_000, 1_000_000_001, 4_294_967_295])
             n = rng.choice([0, 1, 65_535, 65_536, 4_294_967_295])
             lines.append(b"grow %d %d" % (b, n))
-            if b == 1_000_000_000 and bins <= n <= 65_535:
-                buckets, bins = b, n
-                lines += [b"where 999999999", b"fresh 20 3"]
+            if MOST_IN_ONE <= b <= 1_000_000_000 and bins <= n <= 65_535:
+                lines += [b"where %d" % (b - 1), b"fresh 20 3"]
                 buckets, bins = 20, 3
         else:
             lines.append(rng.choice(UNREADABLE))
     return b"\n".join(lines) + b"\n"
 
 
+def one_bin():
+    """As many buckets in one bin as its label leaves room for, and more."""
+    lines = []
+    for b in (MOST_IN_ONE, MOST_IN_ONE + 1, 1_000_000_000):
+        lines += [b"fresh 10 1", b"fresh %d 1" % b, b"where %d" % (b - 1), b"grow %d 1" % b]
+        lines += [b"grow %d 1" % (b + 1), b"grow %d 2" % b, b"where %d" % (b - 1)]
+    lines.append(b"fresh %d 1" % MOST_IN_ONE)
+    for position in (0, LABEL - 1, LABEL, 999_999_999, 1_000_000_000, 4_294_967_295):
+        lines.append(b"at 0 %d" % position)
+    return lines
+
+
 def limits(rng):
-    """The largest table: growths by one bucket until no interval can be added."""
+    """The largest table: growths by one bucket until no interval can be added. Then one bin."""
     lines = [history().encode().rstrip(b"\n")]
     for more in range(1, 80):
         lines.append(b"grow %d %d" % (BUCKETS + more, BINS))
@@ -85,7 +98,10 @@ def limits(rng):
     lines.append(b"grow %d %d" % (BUCKETS + 200, BINS + 1))
     size = BUCKETS // BINS
     for _ in range(1000):
-        lines.append(b"at %d %d" % (rng.randrange(BINS), rng.randrange(size)))
+        lines.append(b"at %d %d" % (rng.randrange(BINS), LABEL + rng.randrange(size)))
+    for position in [*range(LABEL + 2), *range(LABEL + size - 1, LABEL + size + 3)]:
+        lines += [b"at %d %d" % (y, position) for y in range(BINS + 1)]
+    lines += one_bin()
     return b"\n".join(lines) + b"\n"
 
 

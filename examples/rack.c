@@ -8,8 +8,9 @@
 
 #include "irr.h"
 
-/* the positions in every bin; the saved form does not have them, so loading needs them again */
-enum { CAPACITY = 5 };
+/* the positions in every bin: its label, and 5 buckets; the saved form does not have their number,
+ * so loading needs it again */
+enum { CAPACITY = IRR_LABEL + 5 };
 
 /* One table: its header, and room for the largest map. */
 struct table {
@@ -72,7 +73,8 @@ static void grow(const struct table *old, uint32_t buckets, uint32_t bins, struc
     print_moves(old, buckets, bins);
 }
 
-/* asks for a growth after which some bin would hold more buckets than it has positions */
+/* asks for a growth after which some bin's buckets and its label would need more positions than it
+ * has */
 static void overfill(const struct table *old, uint32_t buckets, uint32_t bins, struct table *grown)
 {
     struct irr_table_reply reply =
@@ -86,15 +88,15 @@ static void overfill(const struct table *old, uint32_t buckets, uint32_t bins, s
            (unsigned)buckets, (unsigned)bins, (unsigned)old->header.capacity);
 }
 
-/* each bin with the buckets at its positions */
+/* each bin with the buckets at its positions, which start behind the label */
 static void print_bins(const struct table *t, uint32_t bins)
 {
     for (uint32_t bin = 0; bin < bins; bin++) {
         struct irr_bin_size_reply size = irr_bin_size(t->header, ARRAYS(t), bin);
         need("irr_bin_size", size.refusal);
         printf("  bin %u:", (unsigned)bin);
-        for (uint32_t position = 0; position < size.buckets; position++) {
-            struct irr_find_reply found = irr_find(t->header, ARRAYS(t), bin, position);
+        for (uint32_t i = 0; i < size.buckets; i++) {
+            struct irr_find_reply found = irr_find(t->header, ARRAYS(t), bin, IRR_LABEL + i);
             need("irr_find", found.refusal);
             printf(" %u", (unsigned)found.bucket);
         }

@@ -43,7 +43,7 @@ static const char *words(uint32_t refusal)
     case IRR_ROOM_SHORT:
         return "room for less than 65 tops, or than 2,081 of an interval array";
     case IRR_WRONG_CAPACITY:
-        return "a capacity of 0, above its limit, or below the size of the largest bin";
+        return "a capacity of 0, above its limit, or below the size of the largest bin plus 8";
     case IRR_SHEET_SHORT:
         return "a buffer shorter than 51 bytes an interval";
     default:
@@ -77,7 +77,7 @@ int main(void)
     static uint8_t file[IRR_MAX_SAVED + 1], text[IRR_MAX_SHEET];
     static struct table t;
 
-    /* the saved form has no capacity: with the greatest one, every map loads */
+    /* the saved form has no capacity: with the greatest one, all maps load that load with any */
     size_t length = read_input(file);
     struct irr_load_reply load = irr_load(file, length, IRR_MAX_CAPACITY, ARRAYS(&t));
     need(load.refusal);

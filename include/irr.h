@@ -6,7 +6,9 @@
  * were added together; an interval is a span of bucket numbers, all in one block; the rank of a
  * bucket is its number less the adjustment of its interval; an expansion adds buckets, bins or
  * both. Document 01 calls them drawer (bin), group (block), run (interval) and growth (expansion).
- * The capacity P is the number of positions in every bin: no bin holds more buckets.
+ * Positions are counted from 0. The first 8 of every bin hold its label, so those of buckets start
+ * at 8. The capacity P is the number of positions in every bin, the label's among them: a bin whose
+ * buckets plus 8 exceed P is overfull, and no map has one.
  *
  * A table is a header and four arrays: tops (one a block: the bins up to and including it), and
  * ends, blocks and adjustments (one an interval: the first bucket past it, its block's number, its
@@ -34,12 +36,14 @@ extern "C" {
 
 /* The version of this header and its library; IRR_VERSION is one number, to compare in an #if. */
 #define IRR_VERSION_MAJOR 0
-#define IRR_VERSION_MINOR 4
+#define IRR_VERSION_MINOR 5
 #define IRR_VERSION_PATCH 0
 #define IRR_VERSION (10000 * IRR_VERSION_MAJOR + 100 * IRR_VERSION_MINOR + IRR_VERSION_PATCH)
 
 #define IRR_MAX_BUCKETS 1000000000  /* B */
-#define IRR_MAX_CAPACITY 1000000000 /* P; with this one, no bin of any map is overfull */
+#define IRR_MAX_CAPACITY 1000000000 /* P; with this one, a bin takes at most 999,999,992 buckets */
+#define IRR_LABEL 8                 /* positions 0 to 7 of every bin hold its label; those of
+                                       buckets start here */
 #define IRR_MAX_BINS 65535          /* n, which is also at most B */
 #define IRR_MAX_BLOCKS 65           /* entries of tops to lend for a new table */
 #define IRR_MAX_INTERVALS 2081      /* entries of each interval array to lend for a new table */
@@ -58,11 +62,12 @@ enum irr_refusal {
     IRR_SIZE_BELOW = 3,      /* a size is below the old one */
     IRR_SIZES_EQUAL = 4,     /* both sizes equal the old ones */
     IRR_BLOCKS_FULL = 5,     /* more bins, with 65 blocks present */
-    IRR_BIN_OVERFULL = 31,   /* some bin would be due more buckets than the capacity */
+    IRR_BIN_OVERFULL = 31,   /* some bin's due plus 8 would exceed the capacity */
     IRR_INTERVALS_FULL = 8,  /* the new table needs more than 2,081 intervals */
     /* what is asked of a map */
     IRR_BUCKET_OUTSIDE = 6,  /* bucket not below B */
-    IRR_PLACE_OUTSIDE = 7,   /* bin not below n, or position not below the bin's size */
+    IRR_PLACE_OUTSIDE = 7,   /* bin not below n, or position below 8 or not below the bin's size
+                                plus 8 */
     IRR_ORDER_OUTSIDE = 9,   /* first order number above the total, or expansions above 64 */
     IRR_LIST_FALLS = 32,     /* in a list of buckets, one smaller than the one before it */
     /* a lent table or a file */
@@ -75,7 +80,7 @@ enum irr_refusal {
     IRR_WRONG_HOLDING = 15,  /* a block whose intervals hold another number than its due */
     IRR_WRONG_ADJUSTMENT = 16, /* other than the buckets of other blocks before the interval */
     IRR_WRONG_CAPACITY = 30, /* the capacity is 0 or above its limit, or, in a lent or loaded map,
-                                below the size of its largest bin */
+                                below the size of its largest bin plus 8 */
     /* lent room */
     IRR_ROOM_SHORT = 21,     /* below 65 tops or 2,081 of an interval array, or a file's length */
     IRR_RESULT_SHORT = 33,   /* a result shorter than two numbers a bucket */
@@ -85,7 +90,7 @@ enum irr_refusal {
 /* What travels with the four arrays of a table. */
 struct irr_header {
     uint32_t buckets;        /* B */
-    uint32_t capacity;       /* P: positions in every bin */
+    uint32_t capacity;       /* P: positions in every bin, the label's among them */
     uint32_t block_count;    /* entries of tops in use */
     uint32_t interval_count; /* entries of ends, blocks and adjustments in use */
 };
@@ -187,7 +192,7 @@ struct irr_relocations_reply irr_relocations(
     uint32_t *rows, size_t rows_len);
 
 /*
- * The bin and the position of a bucket.
+ * The bin and the position of a bucket: a position from 8 on, and below the capacity.
  * Refusals: 11, 12, 13, 14, 15, 16, 30, 6. Writes nothing.
  */
 struct irr_place_reply irr_place(
@@ -214,7 +219,7 @@ struct irr_places_reply irr_places(
     uint32_t *places, size_t places_len);
 
 /*
- * The bucket at a position of a bin.
+ * The bucket at a position of a bin. At the label's positions, 0 to 7, there is none.
  * Refusals: 11, 12, 13, 14, 15, 16, 30, 7. Writes nothing.
  */
 struct irr_find_reply irr_find(
@@ -226,7 +231,7 @@ struct irr_find_reply irr_find(
     uint32_t bin, uint32_t position);
 
 /*
- * The number of buckets in a bin (drawer count).
+ * The number of buckets in a bin (drawer count), the label not counted.
  * Refusals: 11, 12, 13, 14, 15, 16, 30, 7. Writes nothing.
  */
 struct irr_bin_size_reply irr_bin_size(

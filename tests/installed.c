@@ -18,7 +18,7 @@ static uint32_t tops[IRR_MAX_BLOCKS], ends[IRR_MAX_INTERVALS], blocks[IRR_MAX_IN
 
 int main(void)
 {
-    struct irr_table_reply made = irr_initial(10, 2, 5, ARRAYS);
+    struct irr_table_reply made = irr_initial(10, 2, 5 + IRR_LABEL, ARRAYS);
     struct irr_place_reply place = irr_place(made.header, ARRAYS, 7);
 
     printf("%d.%d.%d\n", IRR_VERSION_MAJOR, IRR_VERSION_MINOR, IRR_VERSION_PATCH);

@@ -14,6 +14,7 @@ import sys
 
 HISTORY = [("fresh", 10, 2), ("grow", 10, 3), ("grow", 14, 4), ("grow", 14, 5), ("grow", 16, 5)]
 COLOURS = ["#a6cee3", "#fdbf6f", "#b2df8a", "#cab2d6"]
+LABEL = 8  # positions of buckets start here
 CELL, HIGH, STEP, LEFT, TOP = 46, 44, 84, 150, 58
 
 
@@ -51,7 +52,7 @@ def intervals_of(places, blocks):
     for bucket, (bin_, position) in enumerate(places):
         block = max(i for i, (first, _) in enumerate(blocks) if first <= bin_)
         first, size = blocks[block]
-        here = (block, bucket - (position * size + bin_ - first))
+        here = (block, bucket - ((position - LABEL) * size + bin_ - first))
         if here != last:
             found.append((bucket, block))
         last = here

@@ -1,6 +1,6 @@
 /*
  * The header against the archive: the layout of every struct, every field of every reply, headers
- * by value, arrays of length 0 behind any pointer, and document 01's figures.
+ * by value, arrays of length 0 behind any pointer, and the figures of documents 01 and 02.
  */
 #include <inttypes.h>
 #include <stdio.h>
@@ -51,6 +51,7 @@ AT(irr_sheet_reply, refusal, 0);
 AT(irr_sheet_reply, length, 4);
 
 _Static_assert(IRR_MAX_SAVED == 12 + 4 * IRR_MAX_BLOCKS + 8 * IRR_MAX_INTERVALS, "largest file");
+_Static_assert(IRR_LABEL == 8, "positions of the label");
 _Static_assert(IRR_LINE == 51 && IRR_MAX_SHEET == 106131, "a line, the longest sheet");
 _Static_assert(IRR_MAX_SHEET == IRR_LINE * IRR_MAX_INTERVALS, "longest sheet");
 _Static_assert(IRR_MAX_INTERVALS == IRR_MAX_EXPANSIONS * (IRR_MAX_EXPANSIONS + 1) / 2 + 1, "room");
@@ -111,20 +112,21 @@ static void same(const char *what, const void *got, size_t n, const uint32_t *wa
 
 static struct table a, b;
 
-/* each function once, accepted, every field of its reply; the figures of document 01 */
+/* each function once, accepted, every field of its reply, and a position of the label; the figures
+ * of documents 01 and 02 */
 static void check_replies(void)
 {
     struct irr_table_reply table = irr_initial(10, 2, P, ARRAYS(&a));
     same("irr_initial", TABLE(table), WANT(0, 0, 10, P, 1, 1));
     a.header = table.header;
     struct irr_place_reply place = irr_place(a.header, ARRAYS(&a), 7);
-    same("irr_place", PLACE(place), WANT(0, 1, 3));
+    same("irr_place", PLACE(place), WANT(0, 1, 11));
     uint32_t rows[3 * IRR_ROW + 1] = {0};
     struct irr_relocations_reply list =
         irr_relocations(a.header, ARRAYS(&a), 10, 3, 1, rows, 3 * IRR_ROW);
     same("irr_relocations", LIST(list), WANT(0, 2, 3));
-    same("row 1", rows, WANT(8, 0, 4, 2, 1));
-    same("row 2", rows + IRR_ROW, WANT(9, 1, 4, 2, 2));
+    same("row 1", rows, WANT(8, 0, 12, 2, 9));
+    same("row 2", rows + IRR_ROW, WANT(9, 1, 12, 2, 10));
     table = irr_expand(a.header, ARRAYS(&a), 10, 3, ARRAYS(&b));
     same("irr_expand", TABLE(table), WANT(0, 3, 10, P, 2, 2));
     b.header = table.header;
@@ -136,9 +138,13 @@ static void check_replies(void)
     struct irr_places_reply places =
         irr_places(b.header, ARRAYS(&b), (const uint32_t[]){3, 6, 8, 8}, 4, numbers, 9);
     same("irr_places", PLACES(places), WANT(0));
-    same("places", numbers, WANT(1, 1, 0, 3, 2, 1, 2, 1, 0));
-    struct irr_find_reply find = irr_find(b.header, ARRAYS(&b), 2, 1);
+    same("places", numbers, WANT(1, 9, 0, 11, 2, 9, 2, 9, 0));
+    place = irr_place(b.header, ARRAYS(&b), 8);
+    same("irr_place, a moved bucket", PLACE(place), WANT(0, 2, 9));
+    struct irr_find_reply find = irr_find(b.header, ARRAYS(&b), 2, 9);
     same("irr_find", FIND(find), WANT(0, 8));
+    find = irr_find(b.header, ARRAYS(&b), 2, 1);
+    same("irr_find, in the label", FIND(find), WANT(7, 0));
     struct irr_bin_size_reply size = irr_bin_size(b.header, ARRAYS(&b), 0);
     same("irr_bin_size", BIN_SIZE(size), WANT(0, 4));
     struct irr_room_reply room = irr_room(64);
@@ -217,16 +223,38 @@ static void check_sheets(void)
     check_sheet(&a, "         0 999999999         0         0     65535\n");
 }
 
+/* the move list of the growth of a to (14, 5), and where bucket 10 is after it, in b */
+static void check_moves(struct irr_header before, struct irr_header after)
+{
+    uint32_t rows[2 * IRR_ROW] = {0}, numbers[2] = {0};
+    struct irr_relocations_reply list =
+        irr_relocations(before, ARRAYS(&a), 14, 5, 0, rows, 2 * IRR_ROW);
+    same("moves", LIST(list), WANT(0, 2, 2));
+    same("move of bucket 6", rows, WANT(6, 0, 11, 4, 8));
+    same("move of bucket 10", rows + IRR_ROW, WANT(10, 1, 11, 4, 9));
+    struct irr_place_reply place = irr_place(after, ARRAYS(&b), 10);
+    same("bucket 10", PLACE(place), WANT(0, 4, 9));
+    struct irr_places_reply places =
+        irr_places(after, ARRAYS(&b), (const uint32_t[]){10}, 1, numbers, 2);
+    same("bucket 10 in a list", PLACES(places), WANT(0));
+    same("its place", numbers, WANT(4, 9));
+    struct irr_find_reply find = irr_find(after, ARRAYS(&b), 4, 9);
+    same("what is at its place", FIND(find), WANT(0, 10));
+}
+
 /* the other figures: the table after each growth in turn */
 static void check_figures(void)
 {
+    struct irr_header before;
     struct irr_table_reply r = irr_expand(b.header, ARRAYS(&b), 14, 4, ARRAYS(&a));
     same("(14, 4)", TABLE(r), WANT(0, 0, 14, P, 3, 4));
     same("(14, 4) ends", a.ends, WANT(7, 10, 11, 14));
     same("(14, 4) blocks", a.blocks, WANT(0, 1, 0, 2));
     same("(14, 4) adjustments", a.adjustments, WANT(0, 7, 3, 11));
-    r = irr_expand(r.header, ARRAYS(&a), 14, 5, ARRAYS(&b));
+    before = r.header;
+    r = irr_expand(before, ARRAYS(&a), 14, 5, ARRAYS(&b));
     same("(14, 5)", TABLE(r), WANT(0, 2, 14, P, 4, 5));
+    check_moves(before, r.header);
     same("(14, 5) ends", b.ends, WANT(6, 7, 10, 11, 14));
     same("(14, 5) blocks", b.blocks, WANT(0, 3, 1, 3, 2));
     same("(14, 5) adjustments", b.adjustments, WANT(0, 6, 7, 9, 11));
@@ -241,6 +269,10 @@ static void check_figures(void)
     same("(65536, 65536)", TABLE(r), WANT(1, 0, 0, 0, 0, 0));
     r = irr_initial(1000000001, 1, P, ARRAYS(&a));
     same("(1000000001, 1)", TABLE(r), WANT(1, 0, 0, 0, 0, 0));
+    r = irr_initial(1000000000, 1, P, ARRAYS(&a));
+    same("(1000000000, 1)", TABLE(r), WANT(31, 0, 0, 0, 0, 0));
+    r = irr_initial(999999992, 1, P, ARRAYS(&a));
+    same("(999999992, 1)", TABLE(r), WANT(0, 0, 999999992, P, 1, 1));
 }
 
 /* and those of small maps */

@@ -29,6 +29,17 @@ static void read_directory(struct directory *d, const struct table *t)
     directory_read(d, t->header, t->tops, t->ends, t->blocks);
 }
 
+/* irr_find refuses the positions of the bin's label, and the one past its last bucket */
+static void check_edges(const struct table *t, uint32_t bin, uint32_t size)
+{
+    for (uint32_t p = 0; p <= IRR_LABEL; p++) {
+        uint32_t position = p < IRR_LABEL ? p : IRR_LABEL + size;
+        struct irr_find_reply r = irr_find(TABLE(t), bin, position);
+        if (r.refusal != IRR_PLACE_OUTSIDE || r.bucket != 0)
+            fault("irr_find where no bucket is: bin, position, refusal", bin, position, r.refusal);
+    }
+}
+
 /* every bin holds its due size */
 static void check_sizes(const struct directory *d, const struct table *t)
 {
@@ -41,15 +52,14 @@ static void check_sizes(const struct directory *d, const struct table *t)
         size[d->bin[x]]++;
     for (int y = 0; y < bins; y++) {
         struct irr_bin_size_reply r = irr_bin_size(TABLE(t), (uint32_t)y);
-        if ((uint32_t)size[y] > t->header.capacity)
+        if ((uint32_t)size[y] + IRR_LABEL > t->header.capacity)
             fault("overfull: bin, size, capacity", (uint32_t)y, (uint32_t)size[y],
                   t->header.capacity);
         if (size[y] != due[y])
             fault("directory: bin, size, due", (uint32_t)y, (uint32_t)size[y], (uint32_t)due[y]);
         if (r.refusal != 0 || r.buckets != (uint32_t)due[y])
             fault("irr_bin_size: bin, size, due", (uint32_t)y, r.buckets, (uint32_t)due[y]);
-        if (irr_find(TABLE(t), (uint32_t)y, r.buckets).refusal != IRR_PLACE_OUTSIDE)
-            fault("irr_find past the end of bin", (uint32_t)y, r.buckets, 0);
+        check_edges(t, (uint32_t)y, (uint32_t)size[y]);
     }
 }
 
@@ -74,22 +84,26 @@ static uint32_t refusal_with(const struct table *t, uint32_t capacity)
     return irr_place(h, ARRAYS(t), 0).refusal;
 }
 
-/* the largest bin's size is the least capacity of the table, and of its file */
+/* the largest bin's size plus the label is the least capacity of the table, and of its file: the
+ * capacities that are less, down to that size, are refused */
 static void check_capacity(const struct directory *d, const struct table *t)
 {
     static struct table loaded;
     static uint8_t file[IRR_MAX_SAVED];
-    uint32_t least = largest_size(d);
+    uint32_t size = largest_size(d), least = size + IRR_LABEL;
     uint32_t length = irr_save(TABLE(t), file, sizeof file).length;
     if (refusal_with(t, least) != 0)
         fault("least capacity refused", least, t->header.buckets, refusal_with(t, least));
-    if (refusal_with(t, least - 1) != IRR_WRONG_CAPACITY)
-        fault("a capacity below the largest bin", least - 1, t->header.buckets, 0);
     struct irr_load_reply r = irr_load(file, length, least, ROOM(&loaded));
     if (r.refusal != 0 || r.header.capacity != least)
         fault("irr_load, least capacity: refusal, capacity", least, r.refusal, r.header.capacity);
-    if (irr_load(file, length, least - 1, ROOM(&loaded)).refusal != IRR_WRONG_CAPACITY)
-        fault("irr_load with a capacity below the largest bin", least - 1, t->header.buckets, 0);
+    for (uint32_t less = size; less < least; less++) {
+        if (refusal_with(t, less) != IRR_WRONG_CAPACITY)
+            fault("a capacity that the largest bin exceeds", less, size, t->header.buckets);
+        if (irr_load(file, length, less, ROOM(&loaded)).refusal != IRR_WRONG_CAPACITY)
+            fault("irr_load with a capacity that the largest bin exceeds", less, size,
+                  t->header.buckets);
+    }
 }
 
 /* place and find, of every bucket; the single placings are kept */
@@ -101,6 +115,9 @@ static void check_places(const struct directory *d, const struct table *t)
         struct irr_find_reply find = irr_find(TABLE(t), y, p);
         if (place.refusal != 0 || place.bin != y || place.position != p)
             fault("irr_place: bucket, bin, position", (uint32_t)x, place.bin, place.position);
+        if (place.position >= t->header.capacity)
+            fault("irr_place: bucket, position, capacity", (uint32_t)x, place.position,
+                  t->header.capacity);
         if (find.refusal != 0 || find.bucket != (uint32_t)x)
             fault("irr_find: bin, position, bucket", y, p, find.bucket);
         single[x] = place;
@@ -369,7 +386,7 @@ void check_overfull(const struct table *old, uint32_t buckets, uint32_t bins)
     for (uint32_t y = 0; y < bins; y++)
         if ((uint32_t)due[y] > largest)
             largest = (uint32_t)due[y];
-    if (largest <= old->header.capacity)
+    if (largest + IRR_LABEL <= old->header.capacity)
         fault("refused by 31: buckets, bins, largest bin", buckets, bins, largest);
 }
 

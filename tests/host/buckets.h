@@ -9,8 +9,8 @@
  * the map, all of it is compared, bucket by bucket. */
 void check_growth(const struct table *old, const struct table *grown, uint32_t moved);
 
-/* A growth of `old` that the archive refused by 31: some bin would be due more than the capacity,
- * and the move list is refused too. */
+/* A growth of `old` that the archive refused by 31: some bin's due and its label would need more
+ * than the capacity, and the move list is refused too. */
 void check_overfull(const struct table *old, uint32_t buckets, uint32_t bins);
 
 /* A sound table: every bucket, bin and position, lists of buckets, the least capacity, and the

@@ -18,6 +18,7 @@ enum {
     LARGE_TABLES = 500,
     LONG_HISTORIES = 12,
     LIMIT_TABLES = 50,
+    ONE_BIN_TABLES = 60,
     DAMAGED_TABLES = 60000,
     SIZES = 20000
 };
@@ -83,7 +84,7 @@ static void small_table(void)
 static void large_history(void)
 {
     struct table *t = &one, *other = &two;
-    uint32_t most = 1 + below(IRR_MAX_BUCKETS);
+    uint32_t most = 1 + below(IRR_MAX_CAPACITY - IRR_LABEL); /* one bin takes so many */
     fresh(t, most, 1 + below(once_in(2) ? IRR_MAX_BINS : 100), 0);
     for (int g = 0; g < 12; g++) {
         uint32_t b, n;
@@ -110,6 +111,14 @@ static void limit_table(uint32_t past)
 {
     table_exact(&one, IRR_MAX_BUCKETS + (past == 3), IRR_MAX_BINS + (past == 4),
                 IRR_MAX_BLOCKS + (past == 1), IRR_MAX_INTERVALS + (past == 2));
+    round_of_calls(&one, 12);
+    round_of_files(&one, 3);
+}
+
+/* a table of one bin that has so many positions more than buckets: too few for the label, or not */
+static void one_bin_table(uint32_t less)
+{
+    table_random(&one, IRR_MAX_CAPACITY - less, 1, 1);
     round_of_calls(&one, 12);
     round_of_files(&one, 3);
 }
@@ -185,6 +194,8 @@ int main(int argc, char **argv)
     }
     for (uint32_t i = 0; i < LIMIT_TABLES; i++)
         limit_table(i % 5);
+    for (uint32_t i = 0; i < ONE_BIN_TABLES; i++)
+        one_bin_table(i % (IRR_LABEL + 2));
     for (uint32_t i = 0; i < LONG_HISTORIES; i++)
         long_history(i % 2 == 0 ? IRR_MAX_BLOCKS : 5 + below(60));
     buckets_summary();

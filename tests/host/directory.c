@@ -3,6 +3,8 @@
 
 #include <string.h>
 
+enum { LABEL = 8 }; /* the first positions of every bin, which are dealt to no bucket */
+
 int directory_bins(const struct directory *d)
 {
     return d->tops[d->blocks - 1];
@@ -29,7 +31,7 @@ static void deal(struct directory *d)
         if (next[j] == d->tops[j])
             next[j] = j == 0 ? 0 : d->tops[j - 1];
         d->bin[x] = y;
-        d->position[x] = placed[y]++;
+        d->position[x] = LABEL + placed[y]++;
     }
 }
 

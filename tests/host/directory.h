@@ -15,7 +15,7 @@ struct directory {
     int block[DIRECTORY_BUCKETS];      /* of each bucket */
     int starts[DIRECTORY_BUCKETS + 1]; /* whether an interval (run) starts at the bucket */
     int bin[DIRECTORY_BUCKETS];
-    int position[DIRECTORY_BUCKETS];
+    int position[DIRECTORY_BUCKETS];   /* in its bin, behind the label */
 };
 
 /* number of bins */

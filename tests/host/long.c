@@ -10,7 +10,7 @@
 #include "irr.h"
 
 static const size_t huge = (size_t)1 << 32;
-enum { OPEN = 1 << 16, ARRAYS = 6, SKIPPED = 77 };
+enum { OPEN = 1 << 16, ARRAYS = 6, P = 13, SKIPPED = 77 };
 
 static unsigned char *memory[ARRAYS];
 static int faults;
@@ -65,7 +65,7 @@ static void check_lists(struct irr_header h)
     array(4)[0] = 7;
     want("irr_places of 1 bucket into 2^32 numbers", places(h, 1, huge), 0);
     want("its bin", array(5)[0], 1);
-    want("its position", array(5)[1], 3);
+    want("its position", array(5)[1], 11);
 }
 
 /* a sheet of one line, into lengths whose low 32 bits are too short for it */
@@ -87,7 +87,7 @@ int main(void)
         printf("skipped: no address space for arrays of more than 2^32 entries\n");
         return SKIPPED;
     }
-    struct irr_table_reply made = irr_initial(10, 2, 5, FOUR(huge));
+    struct irr_table_reply made = irr_initial(10, 2, P, FOUR(huge));
     want("irr_initial, refusal", made.refusal, 0);
     struct irr_header h = made.header;
     want("irr_place, refusal", irr_place(h, FOUR(huge), 7).refusal, 0);
@@ -101,9 +101,9 @@ int main(void)
     check_sheet(h);
     struct irr_save_reply saved = irr_save(h, FOUR(huge), memory[4], huge);
     want("irr_save, length", saved.length, 24);
-    want("irr_load of 2^32 bytes too many", irr_load(memory[4], huge + 24, 5, FOUR(huge)).refusal,
+    want("irr_load of 2^32 bytes too many", irr_load(memory[4], huge + 24, P, FOUR(huge)).refusal,
          IRR_WRONG_COUNT);
-    want("irr_load", irr_load(memory[4], 24, 5, FOUR(huge)).refusal, 0);
+    want("irr_load", irr_load(memory[4], 24, P, FOUR(huge)).refusal, 0);
     printf("lengths above 2^32: %d faults\n", faults);
     return faults != 0;
 }

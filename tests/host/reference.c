@@ -8,6 +8,7 @@
 enum {
     MOST_BUCKETS = 1000000000,
     MOST_POSITIONS = 1000000000,
+    LABEL = 8, /* the first positions of every bin, which no bucket has */
     MOST_BINS = 65535,
     MOST_BLOCKS = 65,
     MOST_INTERVALS = 2081,
@@ -162,7 +163,7 @@ static int64_t share(int64_t held, int64_t d, int64_t turn)
     return held <= turn ? 0 : (held - turn - 1) / d + 1;
 }
 
-/* whether P is outside its limits, or some bin holds more than P */
+/* whether P is outside its limits, or some bin's buckets and its label need more than P */
 static int capacity_wrong(const struct view *v)
 {
     if (outside(v->capacity, MOST_POSITIONS))
@@ -170,7 +171,7 @@ static int capacity_wrong(const struct view *v)
     for (int64_t j = 0; j < v->block_count; j++) {
         int64_t d = v->tops[j] - (j == 0 ? 0 : v->tops[j - 1]), held = holding(v, j);
         for (int64_t turn = 0; turn < d; turn++)
-            if (share(held, d, turn) > v->capacity)
+            if (share(held, d, turn) + LABEL > v->capacity)
                 return 1;
     }
     return 0;
@@ -236,13 +237,13 @@ static int64_t span_of(const struct map *m, int64_t x)
     return i;
 }
 
-/* bin and position of bucket x of interval i */
+/* bin and position of bucket x of interval i: the source's position, behind the label */
 static void placed(const struct map *m, int64_t i, int64_t x, uint32_t *bin, uint32_t *position)
 {
     int64_t rank = x - m->spans[i].adjustment;
     int64_t d = bins_of(m, m->spans[i].block);
     *bin = (uint32_t)(first_bin(m, m->spans[i].block) + rank % d);
-    *position = (uint32_t)(rank / d);
+    *position = (uint32_t)(LABEL + rank / d);
 }
 
 static int64_t held_by(const struct map *m, int64_t j)
@@ -438,11 +439,11 @@ static uint32_t size_refusal(int64_t buckets, int64_t bins)
     return bins > buckets ? 2 : 0;
 }
 
-/* whether some bin of a map of these sizes is due more than the capacity */
+/* whether some bin's due in a map of these sizes, and its label, need more than the capacity */
 static int overfills(int64_t capacity, int64_t buckets, int64_t bins)
 {
     for (int64_t y = 0; y < bins; y++)
-        if (due(buckets, bins, y) > capacity)
+        if (due(buckets, bins, y) + LABEL > capacity)
             return 1;
     return 0;
 }
@@ -628,12 +629,13 @@ struct irr_find_reply ref_find(struct irr_header header, REF_TABLE, uint32_t bin
     if (reply.refusal != 0)
         return reply;
     read_map(&v, &before);
-    if (bin >= bins_in(&before) || position >= size_of_bin(&before, bin)) {
+    if (bin >= bins_in(&before) || position < LABEL ||
+        position >= LABEL + size_of_bin(&before, bin)) {
         reply.refusal = 7;
         return reply;
     }
     int64_t j = block_of_bin(&before, bin);
-    int64_t rank = position * bins_of(&before, j) + (bin - first_bin(&before, j));
+    int64_t rank = (position - LABEL) * bins_of(&before, j) + (bin - first_bin(&before, j));
     for (int64_t i = 0; i < before.interval_count; i++) {
         const struct span *s = &before.spans[i];
         if (s->block == j && s->start - s->adjustment <= rank && rank < s->end - s->adjustment) {

@@ -66,7 +66,7 @@ static void ask_sizes(const struct table *t, uint32_t *buckets, uint32_t *bins)
         *bins = ONE_OF(n, n, n - 1, n + 1, b, b + 1, *bins);
         break;
     case 3:
-        *buckets = IRR_MAX_BUCKETS - below(3);
+        *buckets = IRR_MAX_BUCKETS - below(IRR_LABEL + 3);
         *bins = ONE_OF(n, n + 1, *bins, IRR_MAX_BINS);
         break;
     default:
@@ -165,9 +165,12 @@ static void try_places(const struct table *t)
 static void try_find(const struct table *t)
 {
     uint32_t n = table_bins(t), size = n == 0 ? 0 : t->header.buckets / n;
-    uint32_t any_bin = below(n), any = below(size + 1);
+    uint32_t any_bin = below(n), any = IRR_LABEL + below(size + 1), past = IRR_LABEL + size;
+    uint32_t of_label = below(IRR_LABEL), after_size = size + below(IRR_LABEL);
     uint32_t bin = ONE_OF(0, n - 1, n, UINT32_MAX, any_bin, any_bin, any_bin);
-    compare_find(t, bin, ONE_OF(0, size - 1, size, size + 1, UINT32_MAX, any, any, any));
+    compare_find(t, bin, ONE_OF(0, of_label, IRR_LABEL - 1, IRR_LABEL, size - 1, after_size,
+                                past - 1, past, past + 1, UINT32_MAX, any, any, any, any, any,
+                                any, any, any));
 }
 
 static void try_bin_size(const struct table *t)
@@ -266,9 +269,9 @@ void round_of_files(const struct table *t, int times)
 void round_of_sizes(void)
 {
     uint32_t b = 1 + below(once_in(2) ? 100 : IRR_MAX_BUCKETS), n = 1 + below(IRR_MAX_BINS);
-    uint32_t any = (uint32_t)random_next(), m = below(65);
-    uint32_t buckets = ONE_OF(0, 1, 2, b, b, b, IRR_MAX_BINS - 1, IRR_MAX_BINS, IRR_MAX_BUCKETS,
-                              IRR_MAX_BUCKETS + 1, UINT32_MAX, any);
+    uint32_t any = (uint32_t)random_next(), m = below(65), most = IRR_MAX_BUCKETS - below(20);
+    uint32_t buckets = ONE_OF(0, 1, 2, b, b, b, IRR_MAX_BINS - 1, IRR_MAX_BINS, most,
+                              IRR_MAX_BUCKETS, IRR_MAX_BUCKETS + 1, UINT32_MAX, any);
     any = (uint32_t)random_next();
     uint32_t bins = ONE_OF(0, 1, 2, b - 1, b, b + 1, n, IRR_MAX_BINS, IRR_MAX_BINS + 1, UINT32_MAX,
                            any);

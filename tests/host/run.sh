@@ -72,11 +72,18 @@ refuses_byte() {
         printf '%b' "\\0$3" | dd bs=1 seek="$2" conv=notrunc of="$OUT/byte.map" 2> /dev/null && refuses "$1" "$OUT/byte.map"
 }
 
+# for awk: prints the four bytes of a number of a saved form, in octal
+PUT='function put(n, i) { for (i = 0; i < 4; i++) { printf "\\0%03o", n % 256; n = int(n / 256) } }'
+
 # the saved form, in octal, of a map at both limits: 2,081 buckets in 65 blocks of one bin, an interval for each bucket
 largest() {
-    awk 'function put(n, i) { for (i = 0; i < 4; i++) { printf "\\0%03o", n % 256; n = int(n / 256) } }
-        BEGIN { put(2081); put(65); put(2081); for (i = 1; i <= 65; i++) put(i); for (i = 1; i <= 2081; i++) put(i)
+    awk "$PUT"' BEGIN { put(2081); put(65); put(2081); for (i = 1; i <= 65; i++) put(i); for (i = 1; i <= 2081; i++) put(i)
             for (i = 0; i < 2081; i++) put(i % 65) }'
+}
+
+# and of a map of $1 buckets in one bin
+one_bin() {
+    awk "$PUT BEGIN { put($1); put(1); put(1); put(1); put($1); put(0) }"
 }
 
 # the sheet example refuses what is left of a map after harm
@@ -93,6 +100,17 @@ harmed() {
         refuses_byte "refused 15: a block whose intervals hold another number than its due" 52 1
 }
 
+# the sheet example takes as many buckets in one bin as the label leaves room for, and refuses more
+full() {
+    file=$OUT/full.map
+    capacity='refused 30: a capacity of 0, above its limit, or below the size of the largest bin plus 8'
+    printf '%b' "$(one_bin 999999992)" > "$file" && "$OUT/sheet" < "$file" > "$OUT/sheet.stdout" &&
+        echo '         0 999999991         0         0         1' | diff - "$OUT/sheet.stdout" || return 1
+    for buckets in 999999993 1000000000; do
+        printf '%b' "$(one_bin $buckets)" > "$file" && refuses "$capacity" "$file" || return 1
+    done
+}
+
 # the sheet example fails, and says so, where it cannot read or write
 closed() {
     "$OUT/sheet" <&- > "$OUT/sheet.stdout" 2> "$OUT/sheet.stderr"
@@ -101,14 +119,14 @@ closed() {
     [ $? = 1 ] && grep -q '^sheet: standard output: ' "$OUT/sheet.stderr"
 }
 
-# builds the sheet example with the flags $1, and runs it on the stored map, on a map at its limits, on harmed files
-# and with its input or output closed
+# builds the sheet example with the flags $1, and runs it on the stored map, on a map at its limits, on harmed files,
+# on full and overfull bins, and with its input or output closed
 sheet() {
     build sheet "$1" examples/sheet.c && "$OUT/sheet" < examples/rack14.map > "$OUT/sheet.stdout" &&
         diff examples/sheet.stdout "$OUT/sheet.stdout" || return 1
     printf '%b' "$(largest)" > "$OUT/largest.map"
     awk 'BEGIN { for (i = 0; i < 2081; i++) printf "%10d%10d%10d%10d%10d\n", i, i, i % 65, i % 65, 1 }' > "$OUT/largest.stdout"
-    "$OUT/sheet" < "$OUT/largest.map" | cmp - "$OUT/largest.stdout" && harmed && closed
+    "$OUT/sheet" < "$OUT/largest.map" | cmp - "$OUT/largest.stdout" && harmed && full && closed
 }
 
 # whether a program can be built and run under the sanitizers here

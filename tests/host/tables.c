@@ -32,7 +32,7 @@ uint32_t largest_bin(uint32_t buckets, uint32_t bins)
 
 uint32_t capacity_for(uint32_t buckets, uint32_t bins)
 {
-    uint32_t least = largest_bin(buckets, bins), more = below(3);
+    uint32_t least = largest_bin(buckets, bins) + IRR_LABEL, more = below(3);
     switch (below(5)) {
     case 0: more = 0; break;
     case 1: break;
@@ -46,16 +46,19 @@ uint32_t capacity_for(uint32_t buckets, uint32_t bins)
 
 uint32_t capacity_near(uint32_t buckets, uint32_t bins)
 {
-    uint32_t least = largest_bin(buckets, bins);
-    switch (below(9)) {
+    uint32_t largest = largest_bin(buckets, bins), least = largest + IRR_LABEL;
+    switch (below(14)) {
     case 0: return 0;
     case 1: return least - 1;
     case 2: return least;
     case 3: return least + 1;
     case 4: return below(least);
-    case 5: return IRR_MAX_CAPACITY;
-    case 6: return IRR_MAX_CAPACITY + 1;
-    case 7: return (uint32_t)random_next();
+    case 5: return largest;
+    case 6: return largest + below(IRR_LABEL);
+    case 7: return 1 + below(IRR_LABEL);
+    case 8: return IRR_MAX_CAPACITY;
+    case 9: return IRR_MAX_CAPACITY + 1;
+    case 10: return (uint32_t)random_next();
     default: return capacity_for(buckets, bins);
     }
 }

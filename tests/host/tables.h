@@ -23,11 +23,12 @@ uint32_t table_bins(const struct table *t);
 /* the number of buckets in the largest bin of a map of these sizes; 0 where there are no bins */
 uint32_t largest_bin(uint32_t buckets, uint32_t bins);
 
-/* a random capacity that such a map allows: the least one, little more, or any */
+/* a random capacity that such a map allows: the least one, which is what its largest bin and the
+ * label need, little more, or any; the greatest where it allows none */
 uint32_t capacity_for(uint32_t buckets, uint32_t bins);
 
-/* any number for a capacity, mostly at or next to a limit: its own, or the largest bin of such a
- * map */
+/* any number for a capacity, mostly at or next to a limit: its own, the least one of such a map, or
+ * what the label alone or the largest bin alone needs */
 uint32_t capacity_near(uint32_t buckets, uint32_t bins);
 
 /* a random sound table, its intervals in any order of blocks; `most` bounds its blocks */

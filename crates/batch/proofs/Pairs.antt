@@ -70,7 +70,6 @@ placeable-later l e a =
     record {
       rise = a .rise;
       places = λ k b c. a .places k (omega arith) c;
-      small = a .small;
       divides = a .divides;
       room = omega (arith, a .room);
     }

@@ -86,8 +86,8 @@ module _
                       m .from,
                       falls-not xs (asked .0) i k b c,
                     );
+                limit = omega (arith, asked .1 k c, formed .bucketLimit);
               };
-          small = λ k c. omega (arith, asked .1 k c, formed .bucketLimit);
           divides = divides;
           room = room;
         }

@@ -1,5 +1,5 @@
 -- The places of buckets that lie in one interval, as the walk writes them. Assumes nothing.
-use Prim.Native.Nat.{ℕ, _-_, _*_, _^_, _≤_, _<_}
+use Prim.Native.Nat.{ℕ, _-_, _*_, _≤_, _<_}
 use mathlib.Core.Path.{_≡_}
 use mathlib.Core.Bool.{false}
 use mathlib.Core.List.{List, [], _∷_, map}
@@ -23,7 +23,6 @@ slotPairs p xs = joined (map (slotPair p) xs)
 pub record Placeable (p : Placing) (by : Reciprocal) (xs : List ℕ) (from : ℕ) (out : List ℕ) : Type 0 where
   pub rise : falls xs ≡ false
   pub places : (k : ℕ) → from ≤ k → k < length xs → Places p (getD xs k 0)
-  pub small : (k : ℕ) → k < length xs → getD xs k 0 < 2 ^ 30
   pub divides : Divides by (p .bins)
   pub room : 2 * length xs ≤ length out
 

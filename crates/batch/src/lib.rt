@@ -1,5 +1,5 @@
 // The places of a list of buckets in a formed table: one walk of its intervals.
-ghost use Prim.Native.Nat.{ℕ, _+_, _-_, _*_, _^_, _<_, _≤_};
+ghost use Prim.Native.Nat.{ℕ, _+_, _-_, _*_, _<_, _≤_};
 ghost use mathlib.Core.Path.{_≡_};
 ghost use mathlib.Core.Bool.{false};
 ghost use lib.ListN.{length, getD};
@@ -71,7 +71,7 @@ fn interval_from(ends: &[u32], k: usize, from: usize, bucket: u32) -> usize
 
 // Writes the place of a bucket as that of number i.
 fn write_place(placing: Placing, by: Reciprocal, bucket: u32, i: usize, out: &mut [u32])
-    requires { ⌜ (Places placing bucket) × (bucket < 2 ^ 30) × Divides by (placing .bins) ⌝ }
+    requires { ⌜ (Places placing bucket) × Divides by (placing .bins) ⌝ }
     requires { ⌜ 2 * i + 2 ≤ length (now out) ⌝ }
     ensures { λ _. ⌜ now (out .exit) ≡ sets (now (out .entry)) (2 * i) (slotPair placing bucket) ⌝ }
 {

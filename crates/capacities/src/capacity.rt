@@ -28,8 +28,8 @@ fn header(buckets: u32, capacity: u32, count: u32) -> Header {
 
 // Each call that reads a table. What it is asked is right, or is refused where the table is not.
 fn calls(h: Header, tops: &[u32], ends: &[u32], blocks: &[u32], adjustments: &[u32]) {
-    reads(h, tops, ends, blocks, adjustments, 1, &[3, 7]);
-    reads(h, tops, ends, blocks, adjustments, LAST, &[7, 3]);
+    reads(h, tops, ends, blocks, adjustments, 1, 9, &[3, 7]);
+    reads(h, tops, ends, blocks, adjustments, LAST, LAST, &[7, 3]);
     save(h, tops, ends, blocks, adjustments, &mut [255; 26]);
     save(h, tops, ends, blocks, adjustments, &mut [255; 23]);
     grow(h, tops, ends, blocks, adjustments, 15, 5, 0);
@@ -37,7 +37,7 @@ fn calls(h: Header, tops: &[u32], ends: &[u32], blocks: &[u32], adjustments: &[u
     grow(h, tops, ends, blocks, adjustments, 16, 3, LAST);
 }
 
-// A bucket, a bin and a position are x; refusals and replies, and the places of a list.
+// A bucket and a bin are x; refusals and replies, and the places of a list.
 fn reads(
     h: Header,
     tops: &[u32],
@@ -45,11 +45,12 @@ fn reads(
     blocks: &[u32],
     adjustments: &[u32],
     x: u32,
+    position: u32,
     list: &[u32],
 ) {
     text(b" place");
     placed(irr::place(h, tops, ends, blocks, adjustments, x));
-    let found = irr::find(h, tops, ends, blocks, adjustments, x, x);
+    let found = irr::find(h, tops, ends, blocks, adjustments, x, position);
     text(b" find");
     number(found.refusal);
     number(found.bucket);
@@ -84,7 +85,7 @@ fn save(
     bytes(buffer);
 }
 
-// The table of (10, 2): 5 buckets in every bin.
+// The table of (10, 2): 5 buckets in every bin, and the label's 8 positions.
 fn small(words: &[u8], capacity: u32) {
     text(words);
     end();
@@ -106,14 +107,15 @@ fn changed(
 
 // 30 of a lent table. 11 to 16 come before it, 1, 6, 7, 21 and 32 after it.
 pub fn tables() {
-    small(b"(10, 2), capacity 5", 5);
-    small(b"(10, 2), capacity 4", 4);
+    small(b"(10, 2), capacity 13", 13);
+    small(b"(10, 2), capacity 12", 12);
+    small(b"(10, 2), capacity 8", 8);
     small(b"(10, 2), capacity 0", 0);
     small(b"(10, 2), capacity 1000000001", OVER);
-    text(b"(10, 2), capacity 4, adjustment 1\n");
-    calls(header(10, 4, 1), &[2], &[10], &[0], &[1]);
-    changed_tables(4);
-    changed_tables(3);
+    text(b"(10, 2), capacity 12, adjustment 1\n");
+    calls(header(10, 12, 1), &[2], &[10], &[0], &[1]);
+    changed_tables(12);
+    changed_tables(11);
 }
 
 fn changed_tables(p: u32) {
@@ -148,15 +150,15 @@ fn grown(capacity: u32, buckets: u32, bins: u32) {
 
 // 31 of a growth. 1 and 3 come before it, 9 after it.
 pub fn growths() {
-    grown(5, 12, 2);
-    grown(6, 12, 2);
-    grown(5, 12, 3);
-    grown(5, 15, 3);
-    grown(5, 16, 3);
-    grown(5, OVER, 2);
-    grown(5, 100, 1);
-    grow(header(10, 5, 1), &[2], &[10], &[0], &[0], 12, 2, LAST);
-    grow(header(10, 5, 1), &[2], &[10], &[0], &[0], 12, 3, 3);
+    grown(13, 12, 2);
+    grown(14, 12, 2);
+    grown(13, 12, 3);
+    grown(13, 15, 3);
+    grown(13, 16, 3);
+    grown(13, OVER, 2);
+    grown(13, 100, 1);
+    grow(header(10, 13, 1), &[2], &[10], &[0], &[0], 12, 2, LAST);
+    grow(header(10, 13, 1), &[2], &[10], &[0], &[0], 12, 3, 3);
 }
 
 // The saved form of (10, 2).
@@ -233,32 +235,33 @@ fn damaged(words: &[u8], at: usize, byte: u8)
 {
     let mut file = GROWN;
     file[at] = byte;
-    with_room(words, &file, 3);
+    with_room(words, &file, 11);
 }
 
 // 30 of a file. 21 and 11 to 15 come before it.
 pub fn files() {
-    with_room(b"load (10, 2) with capacity 5", &SMALL, 5);
-    with_room(b"load (10, 2) with capacity 4", &SMALL, 4);
+    with_room(b"load (10, 2) with capacity 13", &SMALL, 13);
+    with_room(b"load (10, 2) with capacity 12", &SMALL, 12);
+    with_room(b"load (10, 2) with capacity 8", &SMALL, 8);
     with_room(b"load (10, 2) with capacity 0", &SMALL, 0);
     with_room(b"load (10, 2) with capacity 1000000000", &SMALL, MOST);
     with_room(b"load (10, 2) with capacity 1000000001", &SMALL, OVER);
-    with_room(b"load (12, 3) with capacity 4", &GROWN, 4);
-    with_room(b"load (12, 3) with capacity 3", &GROWN, 3);
+    with_room(b"load (12, 3) with capacity 12", &GROWN, 12);
+    with_room(b"load (12, 3) with capacity 11", &GROWN, 11);
     loaded(
         b"load (10, 2) with capacity 0 and 64 tops",
         &SMALL,
         0,
         &mut [9; 64],
     );
-    with_room(b"load 35 bytes with capacity 3", &GROWN[..35], 3);
+    with_room(b"load 35 bytes with capacity 11", &GROWN[..35], 11);
     wrong_files();
 }
 
 fn wrong_files() {
-    damaged(b"load with capacity 3 and no bucket", 0, 0);
-    damaged(b"load with capacity 3 and equal tops", 12, 3);
-    damaged(b"load with capacity 3 and last end 11", 24, 11);
-    damaged(b"load with capacity 3 and block 2 of 2", 32, 2);
-    damaged(b"load with capacity 3 and first end 7", 20, 7);
+    damaged(b"load with capacity 11 and no bucket", 0, 0);
+    damaged(b"load with capacity 11 and equal tops", 12, 3);
+    damaged(b"load with capacity 11 and last end 11", 24, 11);
+    damaged(b"load with capacity 11 and block 2 of 2", 32, 2);
+    damaged(b"load with capacity 11 and first end 7", 20, 7);
 }

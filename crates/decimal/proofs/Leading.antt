@@ -8,7 +8,7 @@ use native.Mathlib.Omega.{arith}
 use lib.ListN.{length, set}
 use lib.Seq.{sets, set-set}
 use Rattle.model.specs.Decimal.{decimal}
-use Rattle.decimal.specs.Parts.{pairOf, fourOf}
+use Rattle.digits.specs.Parts.{pairOf, fourOf}
 use Rattle.model.proofs.Decimals.{decimal-one}
 use Rattle.decimal.proofs.Pairs.{decimal-two, decimal-pair}
 use Rattle.model.proofs.Entries.{sets-swap}

@@ -1,4 +1,3 @@
 pub mod Pairs
 pub mod Leading
-pub mod Lanes
 pub mod Fields

@@ -3,9 +3,8 @@ use Prim.Native.Nat.{ℕ, _+_, _*_, _/_, _%_, _≤_, _<_}
 use mathlib.Core.Path.{_≡_, refl, sym, _∙_, ap}
 use mathlib.Core.List.{List, [], _∷_, _++_, append-nil, append-assoc}
 use native.Mathlib.Nat.{add-zero, zero-add, min-le-right}
-use native.Mathlib.Numerals.{add-one}
 use native.Mathlib.Omega.{arith}
-use lib.ListN.{length, getD, take, drop, set, length-take}
+use lib.ListN.{length, getD, take, drop, length-take}
 use lib.Seq.{sets, getD-take, getD-drop}
 use Rattle.model.specs.Basics.{from, joined}
 use Rattle.model.specs.Decimal.{decimal}
@@ -13,7 +12,8 @@ use Rattle.model.proofs.Decimals.{decimal-one, decimal-more}
 use Rattle.model.proofs.Entries.{sets-over}
 use Rattle.model.proofs.Parts.{parts-length, part-at}
 use Rattle.model.proofs.Tables.{taken}
-use Rattle.decimal.specs.Parts.{pairOf, pairsTo, HoldsPairs}
+use Rattle.digits.specs.Parts.{pairOf}
+use Rattle.decimal.specs.Parts.{pairsTo, HoldsPairs}
 
 -- two digits
 pub decimal-two : (n : ℕ) → 10 ≤ n → n < 100 → decimal n ≡ pairOf n
@@ -31,12 +31,6 @@ decimal-pair n f l =
     ∙ ap (λ (ds : List ℕ). ds ++ (48 + n % 10) ∷ []) (decimal-more (n / 10) (omega arith) (omega arith))
     ∙ append-assoc (decimal (n / 10 / 10)) ((48 + n / 10 % 10) ∷ []) ((48 + n % 10) ∷ [])
     ∙ rw (hundredth, tens, ones)
-
--- the two digits of a number, stored one after the other
-pub pair-stored
-    : (p : ℕ) (l : List ℕ) (o a b : ℕ) → a ≡ 48 + p / 10 → b ≡ 48 + p % 10
-    → set (set l o a) (o + 1) b ≡ sets l o (pairOf p)
-pair-stored p l o a b e f = rw (add-one o, e, f) refl
 
 -- A TABLE OF THEM
 

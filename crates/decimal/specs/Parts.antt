@@ -1,13 +1,10 @@
--- The parts in which a number's digits are stored. Assumes nothing.
-use Prim.Native.Nat.{ℕ, zero, suc, _+_, _*_, _/_, _%_}
+-- The pairs of digits from which short fields are copied. Assumes nothing.
+use Prim.Native.Nat.{ℕ}
 use mathlib.Core.Path.{_≡_}
-use mathlib.Core.List.{List, [], _∷_, _++_}
+use mathlib.Core.List.{List}
 use lib.ListN.{take}
 use Rattle.model.specs.Basics.{from, joined}
-
--- the two digits of a number below 100, the tens first
-abbrev pub pairOf : ℕ → List ℕ
-pairOf p = (48 + p / 10) ∷ (48 + p % 10) ∷ []
+use Rattle.digits.specs.Parts.{pairOf}
 
 -- the pairs of all numbers below n, one after the other
 unfoldable pub pairsTo : ℕ → List ℕ
@@ -16,17 +13,3 @@ pairsTo n = joined (from pairOf 0 n)
 -- a list that begins with those of the numbers below 100
 abbrev pub HoldsPairs : List ℕ → Type 0
 HoldsPairs xs = take 200 xs ≡ pairsTo 100
-
--- the four digits of a number below 10,000
-abbrev pub fourOf : ℕ → List ℕ
-fourOf x = pairOf (x / 100) ++ pairOf (x % 100)
-
--- the k lowest bytes of a number, the lowest first
-unfoldable pub bytesOf : ℕ → ℕ → List ℕ
-bytesOf zero x = []
-bytesOf (suc k) x = x % 256 ∷ bytesOf k (x / 256)
-
--- the number that bytes make up, the lowest first
-unfoldable pub wordOf : List ℕ → ℕ
-wordOf [] = 0
-wordOf (b ∷ bs) = 256 * wordOf bs + b

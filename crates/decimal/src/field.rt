@@ -1,13 +1,14 @@
 // A number right-aligned with blanks in ten columns: a field of the rack sheet. The numbers of a sheet have at most nine digits.
-use crate::digits::put_digits;
-use crate::digits::put_pair;
+use digits::put_digits;
+use digits::put_pair;
 ghost use mathlib.Core.Path.{_≡_};
 ghost use Prim.Native.Nat.{_+_, _-_, _≤_, _<_};
 ghost use lib.ListN.{length};
 ghost use lib.Seq.{sets};
 ghost use Rattle.model.specs.Decimal.{decimal};
 ghost use Rattle.model.specs.Sheet.{blanks, field};
-ghost use Rattle.decimal.specs.Parts.{pairOf, pairsTo, HoldsPairs};
+ghost use Rattle.digits.specs.Parts.{pairOf};
+ghost use Rattle.decimal.specs.Parts.{pairsTo, HoldsPairs};
 
 // What stands before a number.
 const BLANK: u8 = b' ';

@@ -92,28 +92,42 @@ fn replied(reply: TableReply) {
     end();
 }
 
-// Fresh maps. Of (10, 2) a bin holds 5, of (11, 2) the first one 6. 30 comes before 1 and 2; 1 comes before 31, and 2 leaves no
-// bin with more than one bucket.
+// Fresh maps. Of (10, 2) a bin holds 5, of (11, 2) the first one 6, and the label has 8 positions more. 30 comes before 1 and 2;
+// 1 and 2 come before 31.
 pub fn maps() {
-    fresh(10, 2, 5);
-    fresh(10, 2, 4);
-    fresh(11, 2, 6);
-    fresh(11, 2, 5);
+    fresh(10, 2, 13);
+    fresh(10, 2, 12);
+    fresh(11, 2, 14);
+    fresh(11, 2, 13);
+    fresh(12, 2, 13);
+    fresh(12, 3, 13);
     fresh(10, 2, 0);
     fresh(10, 2, OVER);
     fresh(10, 2, LAST);
     fresh(10, 2, MOST);
+    labels();
     most_maps();
     order();
 }
 
-// The most buckets. In 43 bins, P n is above a multiple of 2^32 by less than B.
+// One bucket in one bin: a capacity of 1 to 8 has room for the label at most.
+fn labels() {
+    fresh(1, 1, 1);
+    fresh(1, 1, 7);
+    fresh(1, 1, 8);
+    fresh(1, 1, 9);
+}
+
+// The most buckets, in one bin and in more. In 43 bins, P n is above a multiple of 2^32 by less than B.
 fn most_maps() {
     fresh(MOST, 1, MOST);
+    fresh(999_999_993, 1, MOST);
+    fresh(999_999_992, 1, MOST);
+    fresh(999_999_992, 1, 999_999_999);
     fresh(MOST, 43, MOST);
     fresh(MOST, 1, 999_999_999);
-    fresh(MOST, 65_535, 15_260);
-    fresh(MOST, 65_535, 15_259);
+    fresh(MOST, 65_535, 15_268);
+    fresh(MOST, 65_535, 15_267);
 }
 
 fn order() {
@@ -122,7 +136,7 @@ fn order() {
     fresh(1, 2, 0);
     fresh(OVER, 1, 4);
     fresh(10, 0, 4);
-    fresh(1, 2, 1);
+    fresh(1, 2, 8);
 }
 
 // 21: one entry short in each array. The capacity and the sizes would be refused too.

@@ -1,4 +1,4 @@
-// Lent tables, right and wrong: rules 11 to 16, each at its edge on both sides. The refusal is that of placing bucket 0.
+// Lent tables, right and wrong: rules 11 to 16, each at its edge on both sides, and 30 by the most buckets. The refusal is that of placing bucket 0.
 use crate::print::placed;
 use crate::print::text;
 use crate::read::place;
@@ -7,7 +7,7 @@ use model::table::Header;
 ghost use Prim.Native.Nat.{_<_, _≤_};
 
 // A case is 11 numbers: B, G, k; two tops, two ends, two blocks, two adjustments.
-const CASES: [u32; 275] = [
+const CASES: [u32; 297] = [
     // right
     10,
     2,
@@ -84,9 +84,33 @@ const CASES: [u32; 275] = [
     1_000_000_000,
     1,
     1,
+    2,
+    0,
+    1_000_000_000,
+    0,
+    0,
+    0,
+    0,
+    0,
+    // in one bin, which they overfill
+    1_000_000_000,
+    1,
+    1,
     1,
     0,
     1_000_000_000,
+    0,
+    0,
+    0,
+    0,
+    0,
+    // most in one bin
+    999_999_992,
+    1,
+    1,
+    1,
+    0,
+    999_999_992,
     0,
     0,
     0,
@@ -313,7 +337,7 @@ const CASES: [u32; 275] = [
 // its place in the list of cases, from 0; refusal, bin, position
 pub fn tables() {
     let mut i: usize = 0;
-    while i < 25 {
+    while i < 27 {
         tried(i as u32, 11 * i);
         i += 1;
     }
@@ -323,19 +347,19 @@ pub fn tables() {
 }
 
 fn case(at: usize) -> u32
-    requires { ⌜ at < 275 ⌝ }
+    requires { ⌜ at < 297 ⌝ }
 {
     CASES[at]
 }
 
 fn pair(at: usize) -> [u32; 2]
-    requires { ⌜ at < 274 ⌝ }
+    requires { ⌜ at < 296 ⌝ }
 {
     [case(at), case(at + 1)]
 }
 
 fn header(at: usize) -> Header
-    requires { ⌜ at < 273 ⌝ }
+    requires { ⌜ at < 295 ⌝ }
 {
     Header {
         buckets: case(at),
@@ -346,7 +370,7 @@ fn header(at: usize) -> Header
 }
 
 fn tried(i: u32, at: usize)
-    requires { ⌜ at < 265 ⌝ }
+    requires { ⌜ at < 287 ⌝ }
 {
     let tops = pair(at + 3);
     let ends = pair(at + 5);

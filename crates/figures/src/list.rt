@@ -50,7 +50,7 @@ fn places_0(buckets: &[u32], result: &mut [u32]) {
     asked(b"B 0, places", 0, MAX_CAPACITY, 11, buckets, result);
 }
 
-// The largest bin holds 3.
+// The largest bin holds 3, and its label has 8 positions.
 fn places_small(words: &[u8], capacity: u32, buckets: &[u32], result: &mut [u32]) {
     asked(words, 14, capacity, 11, buckets, result);
 }
@@ -95,16 +95,17 @@ fn falls() {
 
 // 30: 33 and 16 come before it, it before 32 and 6.
 fn capacities() {
-    places_small(b"capacity 3, places", 3, &[6, 6], &mut [9; 4]);
-    places_small(b"capacity 2, places", 2, &[6, 6], &mut [9; 4]);
-    places_small(b"capacity 2, places", 2, &[6, 5], &mut [9; 4]);
-    places_small(b"capacity 2, places", 2, &[6, 14], &mut [9; 4]);
-    places_small(b"capacity 2, places", 2, &[6, 5], &mut [9; 3]);
+    places_small(b"capacity 11, places", 11, &[6, 6], &mut [9; 4]);
+    places_small(b"capacity 10, places", 10, &[6, 6], &mut [9; 4]);
+    places_small(b"capacity 10, places", 10, &[6, 5], &mut [9; 4]);
+    places_small(b"capacity 10, places", 10, &[6, 14], &mut [9; 4]);
+    places_small(b"capacity 10, places", 10, &[6, 5], &mut [9; 3]);
+    places_small(b"capacity 8, places", 8, &[6, 6], &mut [9; 4]);
     places_small(b"capacity 0, places", 0, &[6, 5], &mut [9; 4]);
     asked(
-        b"capacity 2, last adjustment 12, places",
+        b"capacity 10, last adjustment 12, places",
         14,
-        2,
+        10,
         12,
         &[6, 5],
         &mut [9; 4],

@@ -95,9 +95,9 @@ fn grown(capacity: u32, buckets: u32, bins: u32) {
 }
 
 pub fn growths() {
-    grown(1, 66, 65);
-    grown(1, 132, 66);
-    grown(2, 66, 65);
+    grown(9, 66, 65);
+    grown(9, 132, 66);
+    grown(10, 66, 65);
 }
 
 pub fn tables() {

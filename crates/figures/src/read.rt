@@ -90,13 +90,20 @@ fn find_5(
     end();
 }
 
-// 7.
+// 7: positions of the label, past the last bucket, and past the last bin.
 fn finds_5(h: Header, tops: &[u32], ends: &[u32], blocks: &[u32], adjustments: &[u32]) {
+    find_5(h, tops, ends, blocks, adjustments, 0, 0);
     find_5(h, tops, ends, blocks, adjustments, 0, 2);
     find_5(h, tops, ends, blocks, adjustments, 0, 3);
-    find_5(h, tops, ends, blocks, adjustments, 4, 1);
-    find_5(h, tops, ends, blocks, adjustments, 4, 2);
-    find_5(h, tops, ends, blocks, adjustments, 5, 0);
+    find_5(h, tops, ends, blocks, adjustments, 0, 7);
+    find_5(h, tops, ends, blocks, adjustments, 0, 8);
+    find_5(h, tops, ends, blocks, adjustments, 0, 10);
+    find_5(h, tops, ends, blocks, adjustments, 0, 11);
+    find_5(h, tops, ends, blocks, adjustments, 4, 7);
+    find_5(h, tops, ends, blocks, adjustments, 4, 8);
+    find_5(h, tops, ends, blocks, adjustments, 4, 9);
+    find_5(h, tops, ends, blocks, adjustments, 4, 10);
+    find_5(h, tops, ends, blocks, adjustments, 5, 8);
     find_5(
         h,
         tops,

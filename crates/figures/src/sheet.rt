@@ -65,8 +65,8 @@ pub fn sheets() {
     sheet(&mut [b'.'; 255]);
     sheet(&mut [b'.'; 254]);
     sheet(&mut []);
-    asked(b"P 3, sheet", 3, 11, &mut [b'.'; 255]);
-    asked(b"P 2, sheet", 2, 11, &mut [b'.'; 254]);
+    asked(b"P 11, sheet", 11, 11, &mut [b'.'; 255]);
+    asked(b"P 10, sheet", 10, 11, &mut [b'.'; 254]);
     asked(b"adjustment 12, sheet", MAX_CAPACITY, 12, &mut [b'.'; 254]);
     fresh(1, 1);
     fresh(MAX_BUCKETS, 65_535);

@@ -1,4 +1,5 @@
 // The growths that are asked for, and which of them are refused by their sizes.
+use crate::directory::LABEL;
 use crate::directory::due_size;
 use crate::state::State;
 use crate::state::below;
@@ -98,11 +99,11 @@ pub fn refusal(s: State) -> u32 {
     0
 }
 
-// Whether some bin of a map of these sizes is due more than the capacity.
+// Whether what some bin of a map of these sizes is due, and its label, take more than the capacity.
 fn some_overfull(capacity: u32, buckets: u32, bins: u32) -> bool {
     let mut bin: u32 = 0;
     while bin < bins {
-        if capacity < due_size(buckets, bins, bin) {
+        if capacity < plus(LABEL, due_size(buckets, bins, bin)) {
             return true;
         }
         bin += 1;

@@ -2,6 +2,7 @@
 use crate::directory;
 use crate::directory::BIN;
 use crate::directory::Directory;
+use crate::directory::LABEL;
 use crate::directory::POSITION;
 use crate::directory::SIZE;
 use crate::directory::get;
@@ -16,6 +17,7 @@ use crate::total::least;
 use crate::total::minus;
 use crate::total::plus;
 use crate::total::quotient;
+use crate::total::remainder;
 use model::table::Header;
 ghost use Prim.Native.Nat.{_<_, _≤_};
 
@@ -31,7 +33,7 @@ pub fn map(h: Header, tops: &[u32; 65], rest: &[[u32; 2081]; 3], d: &Directory, 
     let s = file::files(h, tops, ends, blocks, adjustments, d, s);
     let s = sheet::sheets(h, tops, ends, blocks, adjustments, d, s);
     let s = place(h, tops, ends, blocks, adjustments, s.buckets, 6, 0, 0, s);
-    find(h, tops, ends, blocks, adjustments, s.bins, 0, 7, 0, s)
+    find(h, tops, ends, blocks, adjustments, s.bins, LABEL, 7, 0, s)
 }
 
 // Every bucket's place, and the bucket of every place.
@@ -117,7 +119,7 @@ fn find(
     same(s, reply.bucket, bucket)
 }
 
-// Every bin's size, and nothing found behind it.
+// Every bin's size, and nothing found where it holds no bucket.
 fn bins(
     h: Header,
     tops: &[u32],
@@ -135,11 +137,30 @@ fn bins(
         next += 1;
         let size = get(d, SIZE, bin);
         let sized = bin_size(h, tops, ends, blocks, adjustments, bin, size, s);
-        let found = find(h, tops, ends, blocks, adjustments, bin, size, 7, 0, sized);
-        s = found;
+        let bare = edges(h, tops, ends, blocks, adjustments, bin, size, sized);
+        s = bare;
         s.bins_seen = plus(s.bins_seen, 1);
     }
     s
+}
+
+// Some position of a bin's label, the label's last, and the one behind the last bucket.
+fn edges(
+    h: Header,
+    tops: &[u32],
+    ends: &[u32],
+    blocks: &[u32],
+    adjustments: &[u32],
+    bin: u32,
+    size: u32,
+    s: State,
+) -> State {
+    let some = remainder(bin, LABEL);
+    let s = find(h, tops, ends, blocks, adjustments, bin, some, 7, 0, s);
+    let last = minus(LABEL, 1);
+    let s = find(h, tops, ends, blocks, adjustments, bin, last, 7, 0, s);
+    let past = plus(LABEL, size);
+    find(h, tops, ends, blocks, adjustments, bin, past, 7, 0, s)
 }
 
 fn bin_size(

@@ -13,6 +13,9 @@ pub type Directory = [[u32; 65536]; 6];
 
 const MOST: u32 = 65_536;
 
+// The first positions of every bin hold its label.
+pub const LABEL: u32 = 8;
+
 const OLD_BIN: usize = 0;
 
 const OLD_POSITION: usize = 1;
@@ -92,10 +95,10 @@ fn held(d: &Directory, count: u32, first: u32, width: u32) -> u32 {
     sum
 }
 
-// A bucket is number `rank` of those that are dealt in turn to the `width` bins from `first` on.
+// A bucket is number `rank` of those that are dealt in turn to the `width` bins from `first` on, past their labels.
 fn deal(d: &mut Directory, bucket: u32, first: u32, width: u32, rank: u32) {
     put(d, BIN, bucket, plus(first, remainder(rank, width)));
-    put(d, POSITION, bucket, quotient(rank, width));
+    put(d, POSITION, bucket, plus(LABEL, quotient(rank, width)));
 }
 
 // A growth: what is now becomes what was before. The new bins are a new block, which is empty if there are none. A fresh map
@@ -148,7 +151,8 @@ fn drain(d: &mut Directory, count: u32, buckets: u32, old_bins: u32, bins: u32) 
 
 fn goes(d: &Directory, count: u32, buckets: u32, bins: u32, bucket: u32) -> bool {
     if bucket < count {
-        return due_size(buckets, bins, get(d, BIN, bucket)) <= get(d, POSITION, bucket);
+        let due = plus(LABEL, due_size(buckets, bins, get(d, BIN, bucket)));
+        return due <= get(d, POSITION, bucket);
     }
     true
 }
@@ -196,7 +200,7 @@ fn count_sizes(d: &mut Directory, count: u32) {
     }
 }
 
-// The size of the largest bin.
+// The positions that the largest bin takes, its label's too.
 pub fn largest(d: &Directory, bins: u32) -> u32 {
     let mut most: u32 = 0;
     let mut bin: u32 = 0;
@@ -207,7 +211,7 @@ pub fn largest(d: &Directory, bins: u32) -> u32 {
         }
         bin += 1;
     }
-    most
+    plus(LABEL, most)
 }
 
 // How many of the first `count` buckets have another bin.

@@ -1,4 +1,4 @@
-// The saved form of a map. The size of the directory's largest bin is the least capacity: the map is accepted with it, lent or
+// The saved form of a map. What the directory's largest bin takes is the least capacity: the map is accepted with it, lent or
 // loaded, and with one less it is refused by 30.
 use crate::compare::place;
 use crate::directory;

@@ -11,6 +11,7 @@ mod sheet;
 mod state;
 mod total;
 
+use crate::directory::LABEL;
 use crate::directory::due_size;
 use crate::history::play;
 use crate::print::end;
@@ -57,15 +58,16 @@ fn started(s: State, first: u32) -> State {
     fresh(s, seed, buckets, bins, capacity(seed, buckets, bins))
 }
 
-// A random capacity for a fresh map: the size of its largest bin, somewhat more, or the greatest.
+// A random capacity for a fresh map: what its largest bin takes, somewhat more, or the greatest.
 fn capacity(seed: u32, buckets: u32, bins: u32) -> u32 {
     let size = due_size(buckets, bins, 0);
-    let twice = plus(size, size);
+    let taken = plus(LABEL, size);
+    let twice = plus(taken, size);
     let capacities = [
-        size,
-        plus(size, 2),
+        taken,
+        plus(taken, 2),
         twice,
-        plus(twice, twice),
+        plus(twice, plus(size, size)),
         MAX_CAPACITY,
         MAX_CAPACITY,
     ];

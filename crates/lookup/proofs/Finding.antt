@@ -11,11 +11,12 @@ use lib.ListN.{length, getD, take, drop}
 use lib.Seq.{drop-cons, length-take-le, getD-take}
 use lib.ListN.{drop-of-length-le}
 use borrow.Author.Tests.{lt-ltb, le-ltb, le-leb, lt-leb}
-use Rattle.model.specs.Basics.{if_then_else_, _or_, from, before}
+use Rattle.model.specs.Basics.{if_then_else_, from, before}
+use Rattle.model.specs.Limits.{label}
 use Rattle.model.specs.Table.{Shape, Table, firstBin, Arrays, bins, shape, table}
 use Rattle.model.specs.Search.{blockOfBin, includes, holder, rankAt, foundOf, heldAt, foundAt}
 use Rattle.model.specs.Due.{due}
-use Rattle.model.specs.Refusal.{first, binPast, searched}
+use Rattle.model.specs.Refusal.{first, binPast, labelled}
 use Rattle.model.specs.Sound.{Formed}
 use Rattle.model.specs.Calls.{answer, binSizeAnswer, binSizeTests, findAnswer, findTests}
 use Rattle.model.specs.declared.table.Header.{Header}
@@ -26,8 +27,7 @@ use Rattle.model.proofs.Intervals.{before-mono}
 use Rattle.model.proofs.Places.{size-due}
 use Rattle.model.proofs.Finds.{entry, Including, includes-holds, includes-true, holder-in, found-in}
 use Rattle.model.proofs.Places.{bin-block, bin-within}
-use Rattle.model.proofs.Searches.{first-searched, found-whole}
-use Rattle.model.proofs.Refusals.{first-skip}
+use Rattle.model.proofs.Searches.{bin-searched, found-whole}
 use Rattle.model.proofs.Rules.{before-next, before-some}
 use Rattle.model.proofs.Wells.{bins-last}
 use Rattle.lookup.proofs.Searches.{first-kept, bins-kept}
@@ -206,26 +206,29 @@ module _
         f ∙ ap (before (a .tops)) same ∙ sym (first-kept h a j (omega arith)) in
         (omega arith, omega arith, omega (arith, s .topsRise block (omega arith)))
 
-    pub rank-here : p * (getD (a .tops) block 0 - first) + (y - first) ≡ rankAt (table h a .tops) y p
+    -- p is the position from the label's end
+    pub rank-here : p * (getD (a .tops) block 0 - first) + (y - first) ≡ rankAt (table h a .tops) y (p + label)
     unfolding rankAt table
     rank-here =
-        rw (← e, bins-kept h a block (block-below .0), first-kept h a block (omega (arith, block-below .0)), ← f)
+        let source : p + label - label ≡ p = omega arith in
+        rw (← e, bins-kept h a block (block-below .0), first-kept h a block (omega (arith, block-below .0)), ← f, source)
 
-    module _ (rank : ℕ) (g : rank ≡ rankAt (table h a .tops) y p) where
+    module _ (rank : ℕ) (g : rank ≡ rankAt (table h a .tops) y (p + label)) where
       -- what the search for the rank answers is what finding answers
       pub answer-here
-          : foundOf (table h a) rank (holder (table h a .intervals) 0 0 block rank) ≡ foundAt (table h a) y p
-      unfolding foundAt heldAt table
-      answer-here = rw (← g, ← e)
+          : foundOf (table h a) rank (holder (table h a .intervals) 0 0 block rank) ≡ foundAt (table h a) y (p + label)
+      unfolding foundAt heldAt labelled table if_then_else_
+      answer-here = rw (← g, ← e, le-ltb (p + label) label (omega arith))
 
       pub find-nothing
-          : holder (table h a .intervals) 0 0 block rank ≡ Nothing → record { refusal = 7; bucket = 0 } ≡ foundAt (table h a) y p
+          : holder (table h a .intervals) 0 0 block rank ≡ Nothing
+          → record { refusal = 7; bucket = 0 } ≡ foundAt (table h a) y (p + label)
       unfolding foundOf
       find-nothing n = sym (ap (foundOf (table h a) rank) n) ∙ answer-here
 
       pub find-in
           : (i : ℕ) → holder (table h a .intervals) 0 0 block rank ≡ In i
-          → record { refusal = 0; bucket = rank + getD (a .adjustments) i 0 } ≡ foundAt (table h a) y p
+          → record { refusal = 0; bucket = rank + getD (a .adjustments) i 0 } ≡ foundAt (table h a) y (p + label)
       find-in i n =
           sym (found-in h a rank i (holder-in h a block rank i n .0)) ∙ sym (ap (foundOf (table h a) rank) n) ∙ answer-here
 
@@ -238,14 +241,16 @@ pub bin-refused
 unfolding findAnswer answer first findTests binPast if_then_else_
 bin-refused t n y p e l = rw (le-leb (bins t) y (omega arith))
 
+-- a position of the label
+pub label-refused : (t : Table) (y p : ℕ) → p < label → record { refusal = 7; bucket = 0 } ≡ foundAt t y p
+unfolding foundAt heldAt labelled foundOf if_then_else_
+label-refused t y p l = rw (lt-ltb p label l)
+
 -- otherwise the search answers
 pub bin-accepted
     : (t : Table) (n y p : ℕ) → n ≡ bins t → y < n → foundAt t y p ≡ findAnswer (first (findTests t y p)) t y p
-unfolding findAnswer findTests binPast foundAt
+unfolding findAnswer foundAt
 bin-accepted t n y p e l =
     sym
-    (ap (λ r. answer r (foundAt t y p) (record { refusal = r; bucket = 0 })) clear
+    (ap (λ r. answer r (foundAt t y p) (record { refusal = r; bucket = 0 })) (bin-searched t y p (omega arith))
     ∙ found-whole t (rankAt (t .tops) y p) (heldAt t y p))
-  where
-    clear : first (findTests t y p) ≡ foundAt t y p .refusal
-    clear = first-skip (7, binPast t y) (searched (foundAt t y p .refusal)) (lt-leb (bins t) y (omega arith)) ∙ first-searched (foundAt t y p .refusal)

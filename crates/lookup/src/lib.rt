@@ -5,6 +5,7 @@ ghost use mathlib.Core.List.{List};
 ghost use mathlib.Core.Path.{_≡_};
 ghost use lib.ListN.{length, getD, take};
 ghost use Rattle.model.specs.Lent.{lent, LentFormed, TopsFormed, tableGiven, tableNow};
+ghost use Rattle.model.specs.Limits.{maxBuckets, label};
 ghost use Rattle.model.specs.Table.{arrays, bins as binsOf, firstBin};
 ghost use Rattle.model.specs.Place.{binOf, positionOf};
 ghost use Rattle.model.specs.Search.{located, placeAt, blockOfBin, holder, foundAt};
@@ -12,6 +13,7 @@ ghost use Rattle.model.specs.Refusal.{first};
 ghost use Rattle.model.specs.Sound.{Formed};
 ghost use Rattle.model.specs.Calls.{findAnswer, findTests, binSizeAnswer, binSizeTests};
 ghost use Rattle.lookup.specs.Search.{Among, Ends, Locatable, intervalsOf};
+use model::limits::LABEL;
 use model::reply::BinSizeReply;
 use model::reply::FindReply;
 use model::reply::PlaceReply;
@@ -83,7 +85,7 @@ fn locate(h: Header, ends: &[u32], adjustments: &[u32], bucket: u32) -> Located
 
 // The place of a rank in a block.
 fn place_in(tops: &[u32], block: usize, rank: u32) -> PlaceReply
-    requires { ⌜ (block < length (now tops)) × (firstBin (now tops) block < getD (now tops) block 0) ⌝ }
+    requires { ⌜ (block < length (now tops)) × (firstBin (now tops) block < getD (now tops) block 0) × (rank ≤ maxBuckets) ⌝ }
     ensures { λ r.
         ⌜
         r ≡ record { refusal = 0; bin = binOf (now (tops .entry)) block rank; position = positionOf (now (tops .entry)) block rank }
@@ -195,7 +197,7 @@ fn hold(
     found
 }
 
-// The bucket at a position of a bin below n, or refusal 7.
+// The bucket at a position of a bin below n, or refusal 7. The position is counted from the label's end.
 fn bucket_at(
     h: Header,
     tops: &[u32],
@@ -203,15 +205,15 @@ fn bucket_at(
     blocks: &[u32],
     adjustments: &[u32],
     bin: u32,
-    position: u32,
+    past: u32,
 ) -> FindReply
     requires { ⌜ LentFormed h tops ends blocks adjustments ⌝ }
     requires { ⌜ bin < binsOf (tableNow h tops ends blocks adjustments) ⌝ }
-    ensures { λ r. ⌜ r ≡ foundAt (tableGiven h tops ends blocks adjustments) bin position ⌝ }
+    ensures { λ r. ⌜ r ≡ foundAt (tableGiven h tops ends blocks adjustments) bin (past + label) ⌝ }
 {
     let block = block_of_bin(tops, h.block_count as usize, bin);
     let low = before(tops, block);
-    let rank = position as u64 * (tops[block] - low) as u64 + (bin - low) as u64;
+    let rank = past as u64 * (tops[block] - low) as u64 + (bin - low) as u64;
     let count = h.interval_count as usize;
     let Holder::In(i) = hold(count, ends, blocks, adjustments, block as u32, rank) else {
         return FindReply {
@@ -248,5 +250,11 @@ pub fn found(
             bucket: 0,
         };
     }
-    bucket_at(h, tops, ends, blocks, adjustments, bin, position)
+    if position < LABEL {
+        return FindReply {
+            refusal: 7,
+            bucket: 0,
+        };
+    }
+    bucket_at(h, tops, ends, blocks, adjustments, bin, position - LABEL)
 }

@@ -1,13 +1,14 @@
 -- Laws of the capacity: the first bin is due the most, and in a table that passes rules 11 to 16 the bins hold their dues. Assumes nothing.
-use Prim.Native.Nat.{ℕ, _*_, _%_, _≤_, _<_}
+use Prim.Native.Nat.{ℕ, _+_, _-_, _*_, _%_, _≤_, _<_}
 use mathlib.Core.Path.{_≡_, sym, _∙_, ap}
 use mathlib.Core.Logic.{⊎-elim}
-use mathlib.Core.Bool.{false, not}
+use mathlib.Core.Bool.{true, false, not}
+use native.Mathlib.Nat.{suc-mul, add-mul, mul-le-mul-right}
 use native.Mathlib.Omega.{arith}
 use lib.Dec.{ltb}
 use borrow.Author.Tests.{ltb-true, ltb-false, lt-ltb, le-ltb, not-true, not-false}
 use Rattle.model.specs.Basics.{_or_}
-use Rattle.model.specs.Limits.{maxCapacity}
+use Rattle.model.specs.Limits.{maxCapacity, label}
 use Rattle.model.specs.Table.{Shape, bins, shape, Arrays, table}
 use Rattle.model.specs.Place.{binSize}
 use Rattle.model.specs.Due.{due}
@@ -18,20 +19,32 @@ use Rattle.model.specs.declared.table.Header.{Header}
 use Rattle.model.proofs.Counts.{below-or, bit-cases}
 use Rattle.model.proofs.Dues.{due-more, due-less}
 use Rattle.model.proofs.Refusals.{or-left, or-right, or-both, inside, not-outside}
-use Rattle.model.proofs.Rules.{all-fails, all-fails-at, all-ext, all-not, not-all}
-use Rattle.model.proofs.Places.{below-due, due-below, size-due}
+use Rattle.model.proofs.Rules.{or-first, or-last, all-fails, all-fails-at, all-ext, all-not, not-all}
+use Rattle.model.proofs.Places.{below-due, due-below, some-bins, bin-within, size-due}
 
 -- OVERFULL BINS
 
+-- what a bin holds that is overfull, or is not, and the other way
+module _ (p m : ℕ) where
+  full : overfull p m ≡ true → p < m + 8
+  unfolding overfull
+  full e = ltb-true p (m + label) e
+
+  within : overfull p m ≡ false → m + 8 ≤ p
+  unfolding overfull
+  within e = ltb-false p (m + label) e
+
+  is-full : p < m + 8 → overfull p m ≡ true
+  unfolding overfull
+  is-full l = lt-ltb p (m + label) l
+
+  is-within : m + 8 ≤ p → overfull p m ≡ false
+  unfolding overfull
+  is-within l = le-ltb p (m + label) l
+
 -- a bin with no more buckets than one that is not overfull is not
 overfull-less : (p m k : ℕ) → m ≤ k → overfull p k ≡ false → overfull p m ≡ false
-unfolding overfull
-overfull-less p m k l e = le-ltb p m (omega (arith, ltb-false p k e))
-
--- what a bin that is not overfull holds
-within : (p m : ℕ) → overfull p m ≡ false → m ≤ p
-unfolding overfull
-within p m e = ltb-false p m e
+overfull-less p m k l e = is-within p m (omega (arith, within p k e))
 
 -- none of n bins is overfull, and the other way
 module _ (p : ℕ) (holds : ℕ → ℕ) (n : ℕ) where
@@ -45,12 +58,14 @@ module _ (p : ℕ) (holds : ℕ → ℕ) (n : ℕ) where
 
 -- sizes overfill a bin exactly where some bin is due more
 pub overfills-where : OverfillsWhere
-unfolding overfills someOverfull overfull
+unfolding overfills someOverfull
 overfills-where p s = (
   λ e.
-      let (y, l, f) = all-fails-at (λ y. not (ltb p (due s y))) (s .bins) (not-true _ e) in
-      (y, l, ltb-true p (due s y) (not-false _ f)),
-  λ w. ap not (all-fails (λ y. not (ltb p (due s y))) (s .bins) (w .0) (w .1) (ap not (lt-ltb p (due s (w .0)) (w .2)))),
+      let (y, l, f) = all-fails-at (λ y. not (overfull p (due s y))) (s .bins) (not-true _ e) in
+      (y, l, full p (due s y) (not-false _ f)),
+  λ w.
+      ap not
+      (all-fails (λ y. not (overfull p (due s y))) (s .bins) (w .0) (w .1) (ap not (is-full p (due s (w .0)) (w .2)))),
 )
 
 -- bins that hold as many
@@ -85,24 +100,47 @@ module _ (p : ℕ) (s : Shape) (some : 1 ≤ s .bins) where
       none-overfull p (due s) (s .bins) (λ y l. overfull-less p (due s y) (due s 0) (due-first s y) (o .0)) ∙ sym (o .0))
       (bit-cases (overfull p (due s 0)))
 
-  -- which is where B is above P times n
-  first-product : overfull p (due s 0) ≡ ltb (p * s .bins) (s .buckets)
-  unfolding overfull
+  -- which is where the positions of all bins are fewer than B and the labels of all bins
+  first-product : overfull p (due s 0) ≡ ltb (p * s .bins) (s .buckets + label * s .bins)
   first-product =
       ⊎-elim
-      (λ l. lt-ltb p (due s 0) l ∙ sym (lt-ltb (p * s .bins) (s .buckets) (omega (arith, due-below (s .buckets) (s .bins) 0 some p l))))
-      (λ l. le-ltb p (due s 0) l ∙ sym (le-ltb (p * s .bins) (s .buckets) (few l)))
-      (below-or p (due s 0))
+      (λ l. is-full p (due s 0) l ∙ sym (lt-ltb (p * s .bins) (s .buckets + label * s .bins) (many l)))
+      (λ l. is-within p (due s 0) l ∙ sym (le-ltb (p * s .bins) (s .buckets + label * s .bins) (few l)))
+      (below-or p (due s 0 + 8))
     where
-      few : due s 0 ≤ p → s .buckets ≤ p * s .bins
-      few l =
+      many : p < due s 0 + 8 → p * s .bins < s .buckets + label * s .bins
+      many l =
           ⊎-elim
-          (λ k. absurd (omega (arith, below-due (s .buckets) (s .bins) 0 some p (omega arith))))
-          (λ k. k)
-          (below-or (p * s .bins) (s .buckets))
+          (λ k. omega (arith, mul-le-mul-right (s .bins) k, suc-mul p (s .bins)))
+          (λ k.
+          let q = p - label in
+          let whole : p ≡ q + label = omega arith in
+          omega (
+            arith,
+            due-below (s .buckets) (s .bins) 0 some q (omega arith),
+            ap (λ p. p * s .bins) whole,
+            add-mul q label (s .bins),
+          ))
+          (below-or p label)
 
-  pub overfills-product : overfills p s ≡ ltb (p * s .bins) (s .buckets)
+      few : due s 0 + 8 ≤ p → s .buckets + label * s .bins ≤ p * s .bins
+      few l =
+          let q = p - label in
+          let whole : p ≡ q + label = omega arith in
+          ⊎-elim
+          (λ k. absurd (omega (arith, below-due (s .buckets) (s .bins) 0 some q (omega arith))))
+          (λ k. omega (arith, ap (λ p. p * s .bins) whole, add-mul q label (s .bins)))
+          (below-or (q * s .bins) (s .buckets))
+
+  pub overfills-product : overfills p s ≡ ltb (p * s .bins) (s .buckets + label * s .bins)
   overfills-product = overfills-first ∙ first-product
+
+-- the first bin is due some bucket, so a capacity of 8 or less has no room for it
+first-some : (s : Shape) → 1 ≤ s .buckets → 1 ≤ s .bins → 1 ≤ due s 0
+first-some s b n = below-due (s .buckets) (s .bins) 0 n 0 (omega arith)
+
+pub no-room : (p : ℕ) (s : Shape) → p ≤ 8 → 1 ≤ s .buckets → 1 ≤ s .bins → overfills p s ≡ true
+no-room p s l b n = overfills-where p s .1 (0, n, omega (arith, first-some s b n))
 
 -- A TABLE'S CAPACITY
 
@@ -148,6 +186,15 @@ sound-capacity h a s =
     (not-outside maxCapacity (h .capacity) (s .someCapacity) (s .capacityLimit))
     (none-overfull (h .capacity) (binSize (table h a)) (bins (table h a)) (s .noneOverfull))
 
--- and none of its bins holds more than P
+-- and none of its bins, with its label, holds more than P
 pub held-within : NoneOverfull
 held-within h a s y l = within (h .capacity) (binSize (table h a) y) (s .noneOverfull y l)
+
+-- a capacity of 8 or less is wrong in every table
+pub capacity-small : (h : Header) (a : Arrays) → Formed h a → h .capacity ≤ 8 → capacityWrong h a ≡ true
+unfolding shape table
+capacity-small h a formed l =
+    let some = bin-within h a formed 0 0 (formed .someBlocks) (some-bins h a formed 0 (formed .someBlocks)) .1 in
+    let full = no-room (h .capacity) (shape (table h a)) l (formed .someBuckets) (omega (arith, some)) in
+    capacity-due h a formed
+    ∙ ⊎-elim (λ o. or-first _ _ (o .0)) (λ o. or-last _ _ (o .0) ∙ full) (bit-cases (capacityOutside (h .capacity)))

@@ -7,7 +7,7 @@ use Rattle.model.specs.Search.{intervalAt, indexOf, located, placeOf, pl
 use Rattle.model.specs.Due.{due, dueOfBins, dueOfBlock}
 use Rattle.model.specs.Refusal.{first, searched, outside, rises, headerOutside, arraysShort, topsWrong, endsWrong, blocksWrong, intervalsFull}
 use Rattle.model.specs.Refusal.{holdingsWrong, adjustmentOf, adjustmentsWrong, sizeOutside, fewBuckets, shrinks, unchanged}
-use Rattle.model.specs.Refusal.{blocksFull, overfull, someOverfull, overfills, bucketPast, binPast, capacityOutside, capacityWrong, roomShort}
+use Rattle.model.specs.Refusal.{blocksFull, overfull, someOverfull, overfills, bucketPast, binPast, labelled, capacityOutside, capacityWrong, roomShort}
 use Rattle.model.specs.Initial.{initial}
 use Rattle.model.specs.Expansion.{newTops, has, dueAfter, someFall, lastBlock, lengthened, gain, pieces, filled, plan, parts, planFor}
 use Rattle.model.specs.Expansion.{parted, movedAfter, extended, drained, expanded, differs, moved}
@@ -33,7 +33,7 @@ unfolding if_then_else_ _and_ _or_ bit sum count all from joined before bins sha
     over written intervalOf indexOf blockOf rank bin position held others size binSize intervalAt located placeOf placeAt
     blockOfBin rankAt includes holder foundOf heldAt foundAt due dueOfBins dueOfBlock first searched outside rises
     headerOutside arraysShort topsWrong endsWrong blocksWrong holdingsWrong adjustmentOf adjustmentsWrong sizeOutside
-    fewBuckets shrinks unchanged blocksFull overfull someOverfull overfills capacityOutside capacityWrong bucketPast binPast roomShort initial newTops has dueAfter someFall
+    fewBuckets shrinks unchanged blocksFull overfull someOverfull overfills capacityOutside capacityWrong bucketPast binPast labelled roomShort initial newTops has dueAfter someFall
     lastBlock lengthened gain pieces filled plan parts planFor parted movedAfter extended drained expanded differs moved
     row rowIf rows page answer tableTests sizeTests freshTests growthTests intervalsFull tableReply arraysAfter initialRefusal
     initialReply initialArrays expandRefusal expandReply expandArrays relocationsAnswer bufferAfter orderTests rowsOf
@@ -50,7 +50,7 @@ unfolding if_then_else_ _and_ _or_ bit sum count all from joined before bins sha
     over written intervalOf indexOf blockOf rank bin position held others size binSize intervalAt located placeOf placeAt
     blockOfBin rankAt includes holder foundOf heldAt foundAt due dueOfBins dueOfBlock first searched outside rises
     headerOutside arraysShort topsWrong endsWrong blocksWrong holdingsWrong adjustmentOf adjustmentsWrong sizeOutside
-    fewBuckets shrinks unchanged blocksFull overfull someOverfull overfills capacityOutside capacityWrong bucketPast binPast roomShort initial newTops has dueAfter someFall
+    fewBuckets shrinks unchanged blocksFull overfull someOverfull overfills capacityOutside capacityWrong bucketPast binPast labelled roomShort initial newTops has dueAfter someFall
     lastBlock lengthened gain pieces filled plan parts planFor parted movedAfter extended drained expanded differs moved
     row rowIf rows page answer tableTests sizeTests freshTests growthTests intervalsFull tableReply arraysAfter initialRefusal
     initialReply initialArrays expandRefusal expandReply expandArrays relocationsAnswer bufferAfter orderTests rowsOf
@@ -67,7 +67,7 @@ unfolding if_then_else_ _and_ _or_ bit sum count all from joined before bins sha
     over written intervalOf indexOf blockOf rank bin position held others size binSize intervalAt located placeOf placeAt
     blockOfBin rankAt includes holder foundOf heldAt foundAt due dueOfBins dueOfBlock first searched outside rises
     headerOutside arraysShort topsWrong endsWrong blocksWrong holdingsWrong adjustmentOf adjustmentsWrong sizeOutside
-    fewBuckets shrinks unchanged blocksFull overfull someOverfull overfills capacityOutside capacityWrong bucketPast binPast roomShort initial newTops has dueAfter someFall
+    fewBuckets shrinks unchanged blocksFull overfull someOverfull overfills capacityOutside capacityWrong bucketPast binPast labelled roomShort initial newTops has dueAfter someFall
     lastBlock lengthened gain pieces filled plan parts planFor parted movedAfter extended drained expanded differs moved
     row rowIf rows page answer tableTests sizeTests freshTests growthTests intervalsFull tableReply arraysAfter initialRefusal
     initialReply initialArrays expandRefusal expandReply expandArrays relocationsAnswer bufferAfter orderTests rowsOf
@@ -85,7 +85,7 @@ unfolding if_then_else_ _and_ _or_ bit sum count all from joined before bins sha
     over written intervalOf indexOf blockOf rank bin position held others size binSize intervalAt located placeOf placeAt
     blockOfBin rankAt includes holder foundOf heldAt foundAt due dueOfBins dueOfBlock first searched outside rises
     headerOutside arraysShort topsWrong endsWrong blocksWrong holdingsWrong adjustmentOf adjustmentsWrong sizeOutside
-    fewBuckets shrinks unchanged blocksFull overfull someOverfull overfills capacityOutside capacityWrong bucketPast binPast roomShort initial newTops has dueAfter someFall
+    fewBuckets shrinks unchanged blocksFull overfull someOverfull overfills capacityOutside capacityWrong bucketPast binPast labelled roomShort initial newTops has dueAfter someFall
     lastBlock lengthened gain pieces filled plan parts planFor parted movedAfter extended drained expanded differs moved
     row rowIf rows page answer tableTests sizeTests freshTests growthTests intervalsFull tableReply arraysAfter initialRefusal
     initialReply initialArrays expandRefusal expandReply expandArrays relocationsAnswer bufferAfter orderTests rowsOf

@@ -19,6 +19,10 @@ sets-more (x ∷ xs) ys l o =
     let next : o + suc (length xs) ≡ suc o + length xs = omega arith in
     ap (λ k. sets (sets (set l o x) (suc o) xs) k ys) next ∙ sets-more xs ys (set l o x) (suc o)
 
+-- two entries, one behind the other
+pub two-stores : (l : List ℕ) (o a b : ℕ) → set (set l o a) (o + 1) b ≡ sets l o (a ∷ b ∷ [])
+two-stores l o a b = rw (add-one o)
+
 -- an entry behind those stored may come first
 sets-behind
     : (xs l : List ℕ) (o i v : ℕ) → o + length xs ≤ i → set (sets l o xs) i v ≡ sets (set l i v) o xs

@@ -2,7 +2,7 @@
 -- Assumes nothing.
 use Prim.Native.Nat.{ℕ, zero, suc, _+_, _*_, _/_, _%_, _≤_, _<_}
 use mathlib.Core.Path.{_≡_, refl, sym, _∙_, ap, ap₂, subst, subst₂}
-use mathlib.Core.Bool.{false}
+use mathlib.Core.Bool.{false, false≢true}
 use mathlib.Core.List.{List, [], _∷_, _++_, map}
 use native.Mathlib.Nat.{add-assoc, mod-eq-of-lt, div-div-eq-div-mul, zero-add, not-suc-le-zero, le-refl, le-of-eq}
 use native.Mathlib.Omega.{arith}
@@ -70,7 +70,7 @@ use Rattle.model.proofs.Tables.{
   table-alike,
 }
 use Rattle.model.proofs.Rules.{not-all}
-use Rattle.model.proofs.Capacities.{formed-sound, sound-again, sound-capacity}
+use Rattle.model.proofs.Capacities.{formed-sound, sound-again, sound-capacity, capacity-small}
 use Rattle.model.proofs.Soundness.{
   Passes,
   passes-formed,
@@ -266,6 +266,14 @@ load-read f p out e = (
   ap₂ table (load-header f p out e) (load-arrays f p out e)
       ∙ table-again (loadedHeader f p) (loadedArrays f p) out (counted _ _ _),
 )
+
+-- no capacity of 8 or less is accepted
+pub load-small : (f : List ℕ) (p : ℕ) (out : Arrays) → p ≤ 8 → loadRefusal f p out ≡ 0 → ⊥
+unfolding loadedHeader
+load-small f p out small e =
+    let (passes, capacity) = load-passes f p out e in
+    let formed = passes-formed (loadedHeader f p) (loadedArrays f p) passes in
+    false≢true (sym capacity ∙ capacity-small (loadedHeader f p) (loadedArrays f p) formed small)
 
 -- THE NUMBERS OF A SAVED TABLE
 

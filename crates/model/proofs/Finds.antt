@@ -1,18 +1,19 @@
 -- Laws of finding: the search for a rank of a block finds its bucket, so find undoes place, and place undoes find.
 -- Assumes nothing.
 use Prim.Native.Nat.{ℕ, zero, suc, _+_, _-_, _*_, _/_, _%_, _≤_, _<_}
-use mathlib.Core.Path.{_≡_, refl, sym, _∙_, ap}
+use mathlib.Core.Path.{_≡_, refl, sym, _∙_, ap, ap₂}
 use mathlib.Core.Logic.{_⊎_, inl, inr, ⊎-elim}
-use mathlib.Core.Bool.{true, false≢true}
-use mathlib.Core.List.{List}
+use mathlib.Core.Bool.{true, false, false≢true}
+use mathlib.Core.List.{List, []}
 use native.Mathlib.Nat.{zero-add, div-add-mod', mod-lt, div-eq-of-lt, mod-eq-of-lt, mul-add-div-right, mul-add-mod-self-right}
 use native.Mathlib.Omega.{arith}
 use lib.ListN.{getD}
-use borrow.Author.Tests.{eq-eqb, le-leb, lt-leb, lt-ltb, eqb-true, leb-true, ltb-true}
-use Rattle.model.specs.Basics.{if_then_else_, _or_, from, before}
-use Rattle.model.specs.Table.{bins, Interval, interval, firstBin, blockBins, Arrays, table}
+use borrow.Author.Tests.{eq-eqb, le-leb, lt-leb, lt-ltb, le-ltb, eqb-true, leb-true, ltb-true}
+use Rattle.model.specs.Basics.{if_then_else_, from, before}
+use Rattle.model.specs.Limits.{label}
+use Rattle.model.specs.Table.{Table, bins, Interval, interval, firstBin, blockBins, Arrays, table}
 use Rattle.model.specs.Place.{blockOf, rank, bin, position, held, binSize}
-use Rattle.model.specs.Refusal.{first, searched, binPast, placePast}
+use Rattle.model.specs.Refusal.{searched, binPast, labelled, placePast}
 use Rattle.model.specs.Search.{
   intervalAt,
   blockOfBin,
@@ -26,13 +27,17 @@ use Rattle.model.specs.Search.{
 }
 use Rattle.model.specs.Calls.{findTests}
 use Rattle.model.specs.Sound.{Formed}
-use Rattle.model.specs.TableClaims.{FindPlaced, PlaceFound, FindRefused}
+use Rattle.model.specs.TableClaims.{PositionSource, PositionBelow, FindPlaced, PlaceFound, FindRefused}
 use Rattle.model.specs.declared.table.Header.{Header}
 use Rattle.model.specs.declared.search.Holder.the-variants.{In, Nothing}
 use Rattle.model.proofs.Counts.{bit-cases, below-or, and-both, and-left, and-right}
 use Rattle.model.proofs.Intervals.{before-mono, block-at}
-use Rattle.model.proofs.Ranks.{interval-of, rank-adjusted, block-below, rank-before, rank-once, rank-reached}
+use Rattle.model.proofs.Refusals.{or-both, first-none, first-skip, first-here}
+use Rattle.model.proofs.Rules.{or-first, or-last}
+use Rattle.model.proofs.Searches.{bin-searched}
+use Rattle.model.proofs.Ranks.{interval-of, rank-adjusted, block-below, rank-held, rank-before, rank-once, rank-reached}
 use Rattle.model.proofs.Places.{below-due, due-below, some-bins, bin-within, bin-block, bin-of, bin-size}
+use Rattle.model.proofs.Capacities.{held-within}
 use Rattle.model.proofs.Tables.{getD-from}
 
 -- THE SEARCH FOR A RANK
@@ -179,24 +184,30 @@ module _ (h : Header) (a : Arrays) (s : Formed h a) where
 
   -- PLACES AND BUCKETS
 
-  -- finding at a place answers the bucket of the place's block and rank
+  -- finding at a place answers the bucket of the place's block and rank; p is the position past the label
   found-at
       : (x j m p : ℕ) → x < h .buckets → j < h .«block_count» → m < blockBins (table h a .tops) j
       → blockOf (table h a) x ≡ j → rank (table h a) x ≡ p * blockBins (table h a .tops) j + m
-      → foundAt (table h a) (firstBin (table h a .tops) j + m) p ≡ record { refusal = 0; bucket = x }
-  unfolding foundAt heldAt rankAt
+      → foundAt (table h a) (firstBin (table h a .tops) j + m) (p + label) ≡ record { refusal = 0; bucket = x }
+  unfolding foundAt heldAt labelled rankAt if_then_else_
   found-at x j m p l below k b r =
       let y = firstBin (table h a .tops) j + m in
       let place : m ≡ y - firstBin (table h a .tops) j = omega arith in
       let block : blockOfBin (table h a .tops) y ≡ j = bin-within h a s j m below k .0 in
-      rw (block, ← place, ← r, ← b) (holder-finds x l)
+      let source : p + label - label ≡ p = omega arith in
+      rw (le-ltb (p + label) label (omega arith), block, source, ← place, ← r, ← b) (holder-finds x l)
 
   bucket-at
       : (x j m p : ℕ) → x < h .buckets → j < h .«block_count» → m < blockBins (table h a .tops) j
       → blockOf (table h a) x ≡ j → rank (table h a) x ≡ p * blockBins (table h a .tops) j + m
-      → bucketAt (table h a) (firstBin (table h a .tops) j + m) p ≡ x
+      → bucketAt (table h a) (firstBin (table h a .tops) j + m) (p + label) ≡ x
   unfolding bucketAt
   bucket-at x j m p l below k b r = ap (λ z. z .bucket) (found-at x j m p l below k b r)
+
+-- the position of a bucket, by its rank
+pub position-source : PositionSource
+unfolding position
+position-source h a s x l = (rank-held h a s x l, refl)
 
 -- the place of a bucket has its block and rank
 pub find-placed : FindPlaced
@@ -209,26 +220,39 @@ find-placed h a s x l =
     let k : r % d < d = mod-lt r (some-bins h a s j below) in
     let whole : r / d * d + r % d ≡ r = div-add-mod' r d in (
       bin-of h a s x l .1,
-      rw (bin-size h a s j (r % d) below k)
-          (below-due (held (table h a) j (h .buckets)) d (r % d) k (r / d) (omega (arith, rank-before h a s x (h .buckets) l l))),
+      omega arith,
+      omega (
+        arith,
+        bin-size h a s j (r % d) below k,
+        below-due (held (table h a) j (h .buckets)) d (r % d) k (r / d) (omega (arith, rank-before h a s x (h .buckets) l l)),
+      ),
       bucket-at h a s x j (r % d) (r / d) l below k refl (sym whole),
     )
 
--- a position below a bin's size has a rank below the number of the block's buckets, so there is a bucket of that rank
+-- so it is below P where no bin is overfull
+pub position-below : PositionBelow
+position-below h a s x l =
+    let (inside, past, under, back) = find-placed h a (s .formed) x l in
+    omega (arith, under, held-within h a s (bin (table h a) x) inside)
+
+-- a position past the label, below a bin's size from there, has a rank below the number of the block's buckets, so there is a
+-- bucket of that rank
 pub place-found : PlaceFound
 unfolding bin position
-place-found h a s y p l k =
+place-found h a s y p l past k =
+    let q = p - label in
+    let whole : p ≡ q + label = omega arith in
     let (j, m, below, inside, e) = bin-block h a s y l in
     let d = blockBins (table h a .tops) j in
     let size = ap (binSize (table h a)) e ∙ bin-size h a s j m below inside in
-    let reached = due-below (held (table h a) j (h .buckets)) d m inside p (omega arith) in
-    let (x, b, block, rank) = rank-reached h a s j (p * d + m) reached in
+    let reached = due-below (held (table h a) j (h .buckets)) d m inside q (omega arith) in
+    let (x, b, block, rank) = rank-reached h a s j (q * d + m) reached in
     let found : bucketAt (table h a) y p ≡ x =
-    ap (λ y. bucketAt (table h a) y p) e ∙ bucket-at h a s x j m p b below inside block rank in
+    ap₂ (bucketAt (table h a)) e whole ∙ bucket-at h a s x j m q b below inside block rank in
     rw (found, block, rank) (
       b,
-      omega (arith, mul-add-mod-self-right p d m, mod-eq-of-lt inside),
-      omega (arith, mul-add-div-right (some-bins h a s j below) p m, div-eq-of-lt inside),
+      omega (arith, mul-add-mod-self-right q d m, mod-eq-of-lt inside),
+      omega (arith, mul-add-div-right (some-bins h a s j below) q m, div-eq-of-lt inside),
     )
 
 -- THE TEST OF A PLACE
@@ -236,26 +260,33 @@ place-found h a s y p l k =
 -- the block and rank of a place, as numbers
 rank-at-place
     : (tops : List ℕ) (y p j m : ℕ) → blockOfBin tops y ≡ j → y ≡ firstBin tops j + m
-    → rankAt tops y p ≡ p * blockBins tops j + m
+    → rankAt tops y p ≡ (p - label) * blockBins tops j + m
 unfolding rankAt
 rank-at-place tops y p j m block e = rw block (omega arith)
 
 module _ (h : Header) (a : Arrays) (s : Formed h a) (y p : ℕ) (l : y < bins (table h a)) where
-  -- a position below the bin's size has a bucket
-  found-inside : p < binSize (table h a) y → foundAt (table h a) y p .refusal ≡ 0
-  found-inside k =
+  -- at a position of the label there is none
+  found-labelled : p < label → foundAt (table h a) y p .refusal ≡ 7
+  unfolding foundAt heldAt labelled foundOf if_then_else_
+  found-labelled k = rw (lt-ltb p label k)
+
+  -- a position past the label, below the bin's size from there, has a bucket
+  found-inside : label ≤ p → p < binSize (table h a) y + label → foundAt (table h a) y p .refusal ≡ 0
+  found-inside past k =
       let t = table h a in
+      let q = p - label in
+      let whole : p ≡ q + label = omega arith in
       let (j, m, below, inside, e) = bin-block h a s y l in
       let size = ap (binSize t) e ∙ bin-size h a s j m below inside in
       let (x, under, owner, ranked) =
-      rank-reached h a s j (p * blockBins (t .tops) j + m)
-      (due-below (held t j (h .buckets)) (blockBins (t .tops) j) m inside p (omega arith)) in
-      ap (λ y. foundAt t y p .refusal) e
-      ∙ ap (λ z. z .refusal) (found-at h a s x j m p under below inside owner ranked)
+      rank-reached h a s j (q * blockBins (t .tops) j + m)
+      (due-below (held t j (h .buckets)) (blockBins (t .tops) j) m inside q (omega arith)) in
+      ap₂ (λ y p. foundAt t y p .refusal) e whole
+      ∙ ap (λ z. z .refusal) (found-at h a s x j m q under below inside owner ranked)
 
   -- at one that is not, no interval includes the rank
-  found-outside : binSize (table h a) y ≤ p → foundAt (table h a) y p .refusal ≡ 7
-  unfolding foundAt heldAt foundOf before
+  found-outside : binSize (table h a) y + label ≤ p → foundAt (table h a) y p .refusal ≡ 7
+  unfolding foundAt heldAt labelled foundOf before if_then_else_
   found-outside k =
       let t = table h a in
       let (j, m, below, inside, e) = bin-block h a s y l in
@@ -276,20 +307,49 @@ module _ (h : Header) (a : Arrays) (s : Formed h a) (y p : ℕ) (l : y < bins (t
       let reached : rank t x < held t j (h .buckets) = rw owner at (rank-before h a s x (h .buckets) under under) in
       omega (
         arith,
-        below-due (held t j (h .buckets)) (blockBins (t .tops) j) m inside p
+        below-due (held t j (h .buckets)) (blockBins (t .tops) j) m inside (p - label)
             (omega (arith, rank-adjusted h a s i x q (c .start) (c .end))),
       ) in
-      rw (holder-none h a (blockOfBin (t .tops) y) (rankAt (t .tops) y p) none)
+      rw (le-ltb p label (omega arith), holder-none h a (blockOfBin (t .tops) y) (rankAt (t .tops) y p) none)
 
--- so finding's tests are document 01's rule 7
+-- document 01's rule 7, of a bin that there is
+module _ (t : Table) (y p : ℕ) (l : y < bins t) where
+  place-labelled : p < label → placePast t y p ≡ true
+  unfolding placePast binPast labelled
+  place-labelled k = or-first _ _ (or-last _ _ (lt-leb (bins t) y l) ∙ lt-ltb p label k)
+
+  place-inside : label ≤ p → p < binSize t y + label → placePast t y p ≡ false
+  unfolding placePast binPast labelled
+  place-inside past k =
+      or-both _ _ (or-both _ _ (lt-leb (bins t) y l) (le-ltb p label past)) (lt-leb (binSize t y + label) p k)
+
+  place-outside : binSize t y + label ≤ p → placePast t y p ≡ true
+  unfolding placePast binPast labelled
+  place-outside k =
+      or-last _ _ (or-both _ _ (lt-leb (bins t) y l) (le-ltb p label (omega arith))) ∙ le-leb (binSize t y + label) p k
+
+-- and of one that there is not
+place-past : (t : Table) (y p : ℕ) → bins t ≤ y → (binPast t y ≡ true) × (placePast t y p ≡ true)
+unfolding placePast binPast
+place-past t y p l = (le-leb (bins t) y l, or-first _ _ (or-first _ _ (le-leb (bins t) y l)))
+
+-- so finding's tests are that rule
 pub find-refused : FindRefused
-unfolding findTests searched first binPast placePast _or_ if_then_else_
+unfolding findTests
 find-refused h a s y p =
+    let t = table h a in
     ⊎-elim
     (λ l.
+    bin-searched t y p l
+    ∙ ⊎-elim
+    (λ b. found-labelled h a s y p l b ∙ sym (first-here (7, placePast t y p) [] (place-labelled t y p l b)))
+    (λ b.
     ⊎-elim
-    (λ k. rw (lt-leb (bins (table h a)) y l, lt-leb (binSize (table h a) y) p k, found-inside h a s y p l k))
-    (λ k. rw (lt-leb (bins (table h a)) y l, le-leb (binSize (table h a) y) p k, found-outside h a s y p l k))
-    (below-or p (binSize (table h a) y)))
-    (λ l. rw (le-leb (bins (table h a)) y l))
-    (below-or y (bins (table h a)))
+    (λ k. found-inside h a s y p l b k ∙ sym (first-skip (7, placePast t y p) [] (place-inside t y p l b k) ∙ first-none))
+    (λ k. found-outside h a s y p l k ∙ sym (first-here (7, placePast t y p) [] (place-outside t y p l k)))
+    (below-or p (binSize t y + label)))
+    (below-or p label))
+    (λ l.
+    let (none, past) = place-past t y p l in
+    first-here (7, binPast t y) (searched (foundAt t y p .refusal)) none ∙ sym (first-here (7, placePast t y p) [] past))
+    (below-or y (bins t))

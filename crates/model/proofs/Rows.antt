@@ -10,6 +10,7 @@ use lib.ListN.{length, getD, take, length-append}
 use lib.Seq.{getD-take}
 use borrow.Author.Tests.{eq-eqb, ne-eqb}
 use Rattle.model.specs.Basics.{if_then_else_, from, joined, before}
+use Rattle.model.specs.Limits.{label}
 use Rattle.model.specs.Table.{Shape, Interval, Table, Arrays, table, bins, shape, firstBin, blockBins}
 use Rattle.model.specs.Place.{blockOf, rank, bin, position, size}
 use Rattle.model.specs.Refusal.{first}
@@ -117,7 +118,7 @@ module _ (t : Table) (s : Shape) (w : Well t) (a : Accepted t s) (falls : someFa
   -- so the place of a bucket of the new block
   new-place
       : (x r : ℕ) → x < s .buckets → drainedBlock t s x ≡ length (t .tops) → size (drainedBlock t s) x (length (t .tops)) ≡ r
-      → (bin (expanded t s) x ≡ bins t + r % (s .bins - bins t)) × (position (expanded t s) x ≡ r / (s .bins - bins t))
+      → (bin (expanded t s) x ≡ bins t + r % (s .bins - bins t)) × (position (expanded t s) x ≡ r / (s .bins - bins t) + label)
   unfolding bin position
   new-place x r l e q =
       let block = drained-block x l ∙ e in
@@ -172,7 +173,7 @@ pub lent-place
     → (i x : ℕ) → i < h .«interval_count» → before (a .ends) i ≤ x → x < getD (a .ends) i 0
     → (bin (table h a) x
     ≡ lentFirst a (getD (a .blocks) i 0) + (x - getD (a .adjustments) i 0) % lentBins a (getD (a .blocks) i 0))
-    × (position (table h a) x ≡ (x - getD (a .adjustments) i 0) / lentBins a (getD (a .blocks) i 0))
+    × (position (table h a) x ≡ (x - getD (a .adjustments) i 0) / lentBins a (getD (a .blocks) i 0) + label)
 unfolding bin position firstBin blockBins table
 lent-place h a formed i x k b e =
     let block = block-at h a (formed .endsRise) i x k b e in
@@ -340,9 +341,9 @@ module _ (h : Header) (a : Arrays) (s : Shape) (formed : Formed h a) (ok : first
           → row (old h a) (new h a s) x
           ≡ x
           ∷ (lentFirst a (getD (a .blocks) i 0) + (x - getD (a .adjustments) i 0) % lentBins a (getD (a .blocks) i 0))
-          ∷ ((x - getD (a .adjustments) i 0) / lentBins a (getD (a .blocks) i 0))
+          ∷ ((x - getD (a .adjustments) i 0) / lentBins a (getD (a .blocks) i 0) + label)
           ∷ (bins (old h a) + (x - (p - rowsBefore h a s i)) % (s .bins - bins (old h a)))
-          ∷ ((x - (p - rowsBefore h a s i)) / (s .bins - bins (old h a)))
+          ∷ ((x - (p - rowsBefore h a s i)) / (s .bins - bins (old h a)) + label)
           ∷ []
       unfolding row
       part-row x c d =

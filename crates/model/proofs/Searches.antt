@@ -9,7 +9,7 @@ use lib.ListN.{getD}
 use lib.Dec.{ltb}
 use borrow.Author.Tests.{eq-eqb, ne-eqb, le-leb, lt-leb}
 use Rattle.model.specs.Basics.{if_then_else_}
-use Rattle.model.specs.Table.{Interval, interval, Table}
+use Rattle.model.specs.Table.{Interval, interval, Table, bins}
 use Rattle.model.specs.Place.{intervalOf, blockOf, bin, position}
 use Rattle.model.specs.Refusal.{first, searched, bucketPast, binPast}
 use Rattle.model.specs.Search.{intervalAt, indexOf, located, placeOf, placeAt, foundOf, foundAt}
@@ -20,7 +20,7 @@ use Rattle.model.specs.declared.search.Located.the-variants.{At, Outside
 use Rattle.model.specs.declared.search.Holder.{Holder}
 use Rattle.model.specs.declared.search.Holder.the-variants.{In, Nothing}
 use Rattle.model.proofs.Counts.{bit-cases, below-or}
-use Rattle.model.proofs.Refusals.{first-clear}
+use Rattle.model.proofs.Refusals.{first-skip, first-clear}
 
 -- a search's refusal as the only test left
 pub first-searched : (r : ℕ) → first (searched r) ≡ r
@@ -50,6 +50,12 @@ found-whole t r Nothing = refl
 pub place-answered : (t : Table) (x : ℕ) → placeAnswer (first (placeTests t x)) t x ≡ placeAt t x
 unfolding placeAnswer placeTests placeAt
 place-answered t x = rw (first-searched (placeOf t (located t x) .refusal)) (place-whole t (located t x))
+
+-- where there is the bin, finding's refusal is the search's
+pub bin-searched : (t : Table) (y p : ℕ) → y < bins t → first (findTests t y p) ≡ foundAt t y p .refusal
+unfolding findTests binPast
+bin-searched t y p l =
+    first-skip (7, binPast t y) (searched (foundAt t y p .refusal)) (lt-leb (bins t) y l) ∙ first-searched (foundAt t y p .refusal)
 
 -- where finding is accepted, so is the search
 pub found-refusal : (t : Table) (y p : ℕ) → first (findTests t y p) ≡ 0 → foundAt t y p .refusal ≡ 0

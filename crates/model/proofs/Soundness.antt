@@ -3,15 +3,15 @@ use Prim.Native.Nat.{ℕ, zero, suc, _≤_, _<_}
 use mathlib.Core.Path.{_≡_, refl, sym, _∙_, ap, ap₂, subst₂}
 use mathlib.Core.Bool.{true, false}
 use mathlib.Core.Logic.{⊎-elim}
-use mathlib.Core.List.{List, []}
+use mathlib.Core.List.{List, [], _∷_}
 use native.Mathlib.Nat.{le-refl, zero-add}
 use native.Mathlib.Omega.{arith}
 use lib.Dec.{ltb, eqb}
 use lib.ListN.{length, getD}
 use lib.Seq.{getD-take}
 use borrow.Author.Tests.{ltb-true, ltb-false, lt-ltb, le-ltb, eqb-true, eq-eqb, not-false}
-use Rattle.model.specs.Basics.{sum, count, all, before}
-use Rattle.model.specs.Limits.{maxBuckets, maxBins, maxBlocks, maxIntervals}
+use Rattle.model.specs.Basics.{sum, count, before}
+use Rattle.model.specs.Limits.{maxBuckets, maxCapacity, maxBins, maxBlocks, maxIntervals}
 use Rattle.model.specs.Table.{Shape, interval, Table, bins, shape, Arrays, table, header, over, written}
 use Rattle.model.specs.Place.{held, others}
 use Rattle.model.specs.Due.{dueOfBlock}
@@ -68,11 +68,12 @@ use Rattle.model.proofs.Refusals.{
   first-skip,
   first-here,
   first-both,
+  first-after,
   Numbered,
   accepted,
 }
 use Rattle.model.proofs.Rules.{all-not, not-all}
-use Rattle.model.proofs.Capacities.{formed-sound, due-sound, sound-again, sound-capacity}
+use Rattle.model.proofs.Capacities.{no-room, formed-sound, due-sound, sound-again, sound-capacity, capacity-small}
 use Rattle.model.proofs.Tables.{
   getD-from,
   lentInterval,
@@ -485,3 +486,19 @@ initial-sound s p out e =
     (sym (reply-header (initialRefusal s p out) 0 (initial s p) e))
     (sym (arrays-written (initialRefusal s p out) (initial s p) out e))
     (fresh-sound s p out inside e₃)
+
+-- where P is 1 to 8: a fresh map
+pub fresh-small
+    : (s : Shape) (p : ℕ) (out : Arrays) → roomShort out ≡ false → 1 ≤ p → p ≤ 8 → first (sizeTests s) ≡ 0
+    → initialRefusal s p out ≡ 31
+unfolding initialRefusal freshTests sizeTests capacityOutside
+fresh-small s p out room some small sized =
+    let fit = allowed s sized in
+    first-skip (21, roomShort out) _ room
+    ∙ first-skip (30, capacityOutside p) _ (not-outside maxCapacity p some (omega arith))
+    ∙ first-after (sizeTests s) ((31, overfills p s) ∷ []) (omega arith) sized
+    ∙ first-here (31, overfills p s) [] (no-room p s small (fit .someBuckets) (fit .someBins))
+
+-- and a table
+pub lent-small : (h : Header) (a : Arrays) → Formed h a → h .capacity ≤ 8 → first (tableTests h a) ≡ 30
+lent-small h a formed small = capacity-last h a .1 (formed, capacity-small h a formed small)

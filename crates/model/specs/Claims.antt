@@ -37,7 +37,7 @@ Figures = map computed starred ≡ map (λ f. f .stated) starred
 abbrev pub Listing : Type 0
 Listing =
     output (text "fresh 10 2\ngrow 10 3\nwhere 8\nat 2 1\ngrow 14 4\ngrow 14 5\nmoves\nwhere 14\n")
-    ≡ text "ok 0 1\nok 3 2\nplace 2 1\nbucket 8\nok 0 4\nok 2 5\nmove 6 0 3 4 0\nmove 10 1 3 4 1\nrefused 6\n"
+    ≡ text "ok 0 1\nok 3 2\nplace 2 9\nrefused 7\nok 0 4\nok 2 5\nmove 6 0 11 4 8\nmove 10 1 11 4 9\nrefused 6\n"
 
 -- the closed form of due sizes
 abbrev pub ClosedForm : Type 0

@@ -48,7 +48,7 @@ figure s ss a = record { fresh = s; growths = ss; stated = a }
 
 unfoldable pub starred : List Figure
 starred =
-    figure (sizes 10 2) [] (place 7 1 3 ∷ [])
+    figure (sizes 10 2) [] (place 7 1 11 ∷ [])
     ∷ figure (sizes 10 2) (sizes 10 3 ∷ [])
     (ends (7 ∷ 10 ∷ []) ∷ blocks (0 ∷ 1 ∷ []) ∷ adjustments (0 ∷ 7 ∷ []) ∷ reply 0 3 2 ∷ [])
     ∷ figure (sizes 10 2) (sizes 10 3 ∷ sizes 14 4 ∷ [])

@@ -9,6 +9,10 @@ maxBuckets = 1_000_000_000
 abbrev pub maxCapacity : ℕ
 maxCapacity = 1_000_000_000
 
+-- the positions of a bin that hold its label: the first ones, so positions of buckets start here
+abbrev pub label : ℕ
+label = 8
+
 -- n, the number of bins (drawers), is 1 to this
 abbrev pub maxBins : ℕ
 maxBins = 65_535

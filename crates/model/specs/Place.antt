@@ -4,6 +4,7 @@ use mathlib.Core.Bool.{not}
 use mathlib.Core.List.{List, [], _∷_, map}
 use lib.Dec.{ltb, eqb}
 use Rattle.model.specs.Basics.{if_then_else_, count, joined}
+use Rattle.model.specs.Limits.{label}
 use Rattle.model.specs.Table.{Interval, interval, Table, firstBin, blockBins}
 
 -- the interval of bucket x: the first one that ends past x
@@ -18,12 +19,12 @@ blockOf t x = intervalOf (t .intervals) x .block
 unfoldable pub rank : Table → ℕ → ℕ
 rank t x = x - intervalOf (t .intervals) x .adjustment
 
--- the bin (drawer) of rank r of block j, and the position there
+-- the bin (drawer) of rank r of block j, and the position there: the source's, past the label
 abbrev pub binOf : List ℕ → ℕ → ℕ → ℕ
 binOf tops j r = firstBin tops j + r % blockBins tops j
 
 abbrev pub positionOf : List ℕ → ℕ → ℕ → ℕ
-positionOf tops j r = r / blockBins tops j
+positionOf tops j r = r / blockBins tops j + label
 
 -- the bin of bucket x, and its position there
 unfoldable pub bin : Table → ℕ → ℕ

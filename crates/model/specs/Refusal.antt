@@ -1,12 +1,12 @@
 -- Document 01, 'Who brings a refusal about', and the numbers that requests add to it: the conditions, in the order of docs/REFUSALS.md. Those of a
 -- file stand in Saved, that of a sheet in Sheet, those of the program's lines in Console, the order of a call's tests in Calls. Assumes nothing.
-use Prim.Native.Nat.{ℕ, _*_}
+use Prim.Native.Nat.{ℕ, _+_, _*_}
 use mathlib.Core.Bool.{Bool, not}
 use mathlib.Core.List.{List, [], _∷_}
 use lib.ListN.{length, getD}
 use lib.Dec.{leb, ltb, eqb}
 use Rattle.model.specs.Basics.{if_then_else_, _and_, _or_, all, before}
-use Rattle.model.specs.Limits.{maxBuckets, maxCapacity, maxBins, maxBlocks, maxIntervals, maxExpansions}
+use Rattle.model.specs.Limits.{maxBuckets, maxCapacity, label, maxBins, maxBlocks, maxIntervals, maxExpansions}
 use Rattle.model.specs.Table.{Shape, Table, bins, shape, Arrays, table}
 use Rattle.model.specs.Place.{held, others, binSize}
 use Rattle.model.specs.Due.{due, dueOfBlock}
@@ -52,15 +52,15 @@ unchanged t s = eqb (s .buckets) (t .buckets) and eqb (s .bins) (bins t)
 unfoldable pub blocksFull : Table → Shape → Bool
 blocksFull t s = ltb (bins t) (s .bins) and eqb (length (t .tops)) maxBlocks
 
--- a bin that holds m buckets, where the capacity is p, is overfull
+-- a bin that holds m buckets, where the capacity is p, is overfull: its buckets plus the label exceed p
 unfoldable pub overfull : ℕ → ℕ → Bool
-overfull p m = ltb p m
+overfull p m = ltb p (m + label)
 
 -- some of the bins below n is; `holds` says how many buckets each holds
 unfoldable pub someOverfull : ℕ → (ℕ → ℕ) → ℕ → Bool
 someOverfull p holds n = not (all (λ y. not (overfull p (holds y))) n)
 
--- 31: some bin of the map asked for would be due more than P
+-- 31: some bin of the map asked for would be overfull
 unfoldable pub overfills : ℕ → Shape → Bool
 overfills p s = someOverfull p (due s) (s .bins)
 
@@ -78,13 +78,16 @@ bucketPast t x = leb (t .buckets) x
 unfoldable pub somePast : Table → List ℕ → Bool
 somePast t xs = not (all (λ i. not (bucketPast t (getD xs i 0))) (length xs))
 
--- 7: bin not below n, or position not below that bin's size. Finding tests the bin; at such a position its search answers that
--- there is none (`FindRefused`).
+-- 7: bin not below n, or a position of that bin's label, or one not below its size plus the label. Finding tests the bin; at
+-- such a position its search answers that there is none (`FindRefused`).
 unfoldable pub binPast : Table → ℕ → Bool
 binPast t y = leb (bins t) y
 
+unfoldable pub labelled : ℕ → Bool
+labelled p = ltb p label
+
 unfoldable pub placePast : Table → ℕ → ℕ → Bool
-placePast t y p = binPast t y or leb (binSize t y) p
+placePast t y p = binPast t y or labelled p or leb (binSize t y + label) p
 
 -- 9: order number q above the total number of rows; m expansions, above 64
 abbrev pub orderPast : ℕ → ℕ → Bool
@@ -147,7 +150,7 @@ adjustmentsWrong h a = not (all (λ i. eqb (getD (a .adjustments) i 0) (adjustme
 unfoldable pub capacityOutside : ℕ → Bool
 capacityOutside p = outside maxCapacity p
 
--- or, in a lent or loaded map, below the size of its largest bin: some bin holds more than P
+-- or, in a lent or loaded map, some bin is overfull
 unfoldable pub capacityWrong : Header → Arrays → Bool
 capacityWrong h a =
     capacityOutside (h .capacity) or someOverfull (h .capacity) (binSize (table h a)) (bins (table h a))

@@ -6,9 +6,10 @@ use mathlib.Core.List.{List, [], _∷_}
 use lib.ListN.{getD}
 use lib.Dec.{leb, ltb, eqb}
 use Rattle.model.specs.Basics.{if_then_else_, _and_}
+use Rattle.model.specs.Limits.{label}
 use Rattle.model.specs.Table.{Interval, interval, Table, firstBin, blockBins}
 use Rattle.model.specs.Place.{rank, binOf, positionOf}
-use Rattle.model.specs.Refusal.{bucketPast}
+use Rattle.model.specs.Refusal.{bucketPast, labelled}
 use Rattle.model.specs.declared.search.Located.{Located}
 use Rattle.model.specs.declared.search.Located.the-variants.{At, Outside}
 use Rattle.model.specs.declared.search.Holder.{Holder}
@@ -52,9 +53,9 @@ unfoldable pub blockOfBin : List ℕ → ℕ → ℕ
 blockOfBin [] y = 0
 blockOfBin (top ∷ rest) y = if ltb y top then 0 else suc (blockOfBin rest y)
 
--- the rank that belongs at position p of bin y
+-- the rank that belongs at position p of bin y, past its label
 unfoldable pub rankAt : List ℕ → ℕ → ℕ → ℕ
-rankAt tops y p = p * blockBins tops (blockOfBin tops y) + (y - firstBin tops (blockOfBin tops y))
+rankAt tops y p = (p - label) * blockBins tops (blockOfBin tops y) + (y - firstBin tops (blockOfBin tops y))
 
 -- whether an interval from s on is of block j and its ranks include r
 unfoldable pub includes : ℕ → Interval → ℕ → ℕ → Bool
@@ -71,9 +72,10 @@ unfoldable pub foundOf : Table → ℕ → Holder → FindReply
 foundOf t r (In k) = record { refusal = 0; bucket = r + intervalAt t k .adjustment }
 foundOf t r Nothing = record { refusal = 7; bucket = 0 }
 
--- what the search for the rank of position p of bin y answers
+-- what the search for the rank of position p of bin y answers; at a position of the label there is none
 unfoldable pub heldAt : Table → ℕ → ℕ → Holder
-heldAt t y p = holder (t .intervals) 0 0 (blockOfBin (t .tops) y) (rankAt (t .tops) y p)
+heldAt t y p =
+    if labelled p then Nothing else holder (t .intervals) 0 0 (blockOfBin (t .tops) y) (rankAt (t .tops) y p)
 
 -- what finding at position p of bin y answers, where y is below n
 unfoldable pub foundAt : Table → ℕ → ℕ → FindReply

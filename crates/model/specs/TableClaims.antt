@@ -1,12 +1,12 @@
 -- What is proved of lent tables and files: soundness, places, and keeping. Each claim is a type. Assumes nothing.
-use Prim.Native.Nat.{ℕ, _+_, _*_, _≤_, _<_}
+use Prim.Native.Nat.{ℕ, _+_, _*_, _/_, _≤_, _<_}
 use mathlib.Core.Path.{_≡_}
 use mathlib.Core.Logic.{_↔_}
 use mathlib.Core.Bool.{true, false}
 use mathlib.Core.List.{List, [], _∷_}
 use lib.ListN.{length, getD, take}
-use Rattle.model.specs.Table.{Shape, Table, bins, shape, Arrays, table, header, written}
-use Rattle.model.specs.Place.{bin, position, binSize}
+use Rattle.model.specs.Table.{Shape, Table, bins, shape, blockBins, Arrays, table, header, written}
+use Rattle.model.specs.Place.{blockOf, rank, bin, position, held, binSize}
 use Rattle.model.specs.Due.{due}
 use Rattle.model.specs.Refusal.{first, overfills, bucketPast, placePast, falls, arraysShort, capacityWrong, roomShort, resultShort}
 use Rattle.model.specs.Search.{bucketAt}
@@ -15,6 +15,7 @@ use Rattle.model.specs.Initial.{initial}
 use Rattle.model.specs.Saved.{saved, loadedHeader, loadedArrays}
 use Rattle.model.specs.Calls.{
   tableTests,
+  sizeTests,
   placeTests,
   findTests,
   placeReply,
@@ -40,9 +41,18 @@ SoundIff = (h : Header) (a : Arrays) → (first (tableTests h a) ≡ 0) ↔ Soun
 abbrev pub CapacityLast : Type 0
 CapacityLast = (h : Header) (a : Arrays) → (first (tableTests h a) ≡ 30) ↔ (Formed h a × (capacityWrong h a ≡ true))
 
--- sizes overfill a bin exactly where some bin would be due more than P
+-- sizes overfill a bin exactly where what some bin would be due, plus 8, exceeds P
 abbrev pub OverfillsWhere : Type 0
-OverfillsWhere = (p : ℕ) (s : Shape) → (overfills p s ≡ true) ↔ ((y : ℕ) × (y < s .bins) × (p < due s y))
+OverfillsWhere = (p : ℕ) (s : Shape) → (overfills p s ≡ true) ↔ ((y : ℕ) × (y < s .bins) × (p < due s y + 8))
+
+-- so a P of 1 to 8 holds no map: a fresh one whose sizes pass rules 1 and 2 is refused by 31, a table that passes rules 11 to 16
+-- by 30, and no file is loaded
+abbrev pub LabelAlone : Type 0
+LabelAlone =
+    ((s : Shape) (p : ℕ) (out : Arrays) → roomShort out ≡ false → 1 ≤ p → p ≤ 8 → first (sizeTests s) ≡ 0
+    → initialRefusal s p out ≡ 31)
+    × ((h : Header) (a : Arrays) → Formed h a → h .capacity ≤ 8 → first (tableTests h a) ≡ 30)
+    × ((f : List ℕ) (p : ℕ) (out : Arrays) → p ≤ 8 → loadRefusal f p out ≡ 0 → ⊥)
 
 -- soundness is the table's: arrays that hold the table of sound ones, and are no shorter than its counts, are sound
 abbrev pub SameSound : Type 0
@@ -84,26 +94,40 @@ SizeDue =
 abbrev pub TableBalanced : Type 0
 TableBalanced = (h : Header) (a : Arrays) → Formed h a → Balanced (shape (table h a)) (bin (table h a))
 
--- no bin of a sound table holds more than P
+-- the buckets of a bin of a sound table, plus 8, do not exceed P
 abbrev pub NoneOverfull : Type 0
 NoneOverfull =
     (h : Header) (a : Arrays) → Sound h a
-    → (y : ℕ) → y < bins (table h a) → binSize (table h a) y ≤ h .capacity
+    → (y : ℕ) → y < bins (table h a) → binSize (table h a) y + 8 ≤ h .capacity
 
--- find undoes place, and the positions of a bin are below its size
+-- a position is the source's plus 8: the source's is the bucket's rank, which is how many buckets before it are of its block,
+-- divided by the block's bins
+abbrev pub PositionSource : Type 0
+PositionSource =
+    (h : Header) (a : Arrays) → Formed h a
+    → (x : ℕ) → x < h .buckets
+    → (rank (table h a) x ≡ held (table h a) (blockOf (table h a) x) x)
+    × (position (table h a) x ≡ rank (table h a) x / blockBins (table h a .tops) (blockOf (table h a) x) + 8)
+
+-- and below P, in a sound table
+abbrev pub PositionBelow : Type 0
+PositionBelow = (h : Header) (a : Arrays) → Sound h a → (x : ℕ) → x < h .buckets → position (table h a) x < h .capacity
+
+-- find undoes place, and the positions of a bin are 8 to its size plus 7
 abbrev pub FindPlaced : Type 0
 FindPlaced =
     (h : Header) (a : Arrays) → Formed h a
     → (x : ℕ) → x < h .buckets
     → (bin (table h a) x < bins (table h a))
-    × (position (table h a) x < binSize (table h a) (bin (table h a) x))
+    × (8 ≤ position (table h a) x)
+    × (position (table h a) x < binSize (table h a) (bin (table h a) x) + 8)
     × (bucketAt (table h a) (bin (table h a) x) (position (table h a) x) ≡ x)
 
--- place undoes find, and every position below a bin's size has a bucket
+-- place undoes find, and every position from 8 to a bin's size plus 7 has a bucket
 abbrev pub PlaceFound : Type 0
 PlaceFound =
     (h : Header) (a : Arrays) → Formed h a
-    → (y p : ℕ) → y < bins (table h a) → p < binSize (table h a) y
+    → (y p : ℕ) → y < bins (table h a) → 8 ≤ p → p < binSize (table h a) y + 8
     → (bucketAt (table h a) y p < h .buckets)
     × (bin (table h a) (bucketAt (table h a) y p) ≡ y)
     × (position (table h a) (bucketAt (table h a) y p) ≡ p)
@@ -184,6 +208,7 @@ pub record TableClaims : Type 0 where
   pub soundIff : SoundIff
   pub capacityLast : CapacityLast
   pub overfillsWhere : OverfillsWhere
+  pub labelAlone : LabelAlone
   pub sameSound : SameSound
   pub initialSound : InitialSound
   pub loadSound : LoadSound
@@ -193,6 +218,8 @@ pub record TableClaims : Type 0 where
   pub sizeDue : SizeDue
   pub noneOverfull : NoneOverfull
   pub tableBalanced : TableBalanced
+  pub positionSource : PositionSource
+  pub positionBelow : PositionBelow
   pub findPlaced : FindPlaced
   pub placeFound : PlaceFound
   pub placeRefused : PlaceRefused

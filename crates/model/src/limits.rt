@@ -6,6 +6,9 @@ pub const MAX_BUCKETS: u32 = 1_000_000_000;
 // P, the capacity, which is the number of positions in every bin (drawer), is 1 to this.
 pub const MAX_CAPACITY: u32 = 1_000_000_000;
 
+// The positions of a bin that hold its label: the first ones, so positions of buckets start here.
+pub const LABEL: u32 = 8;
+
 // n, the number of bins (drawers), is 1 to this.
 pub const MAX_BINS: u32 = 65_535;
 

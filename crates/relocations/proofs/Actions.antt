@@ -50,7 +50,7 @@ paged-none q w buffer = rw (drop-nil {A = List ℕ} (q - w), take-nil) (sym (wit
 -- the order number of its first row is its rank in the new block
 part-own : (old new : Placing) (p e w : ℕ) → Part old new p e w → Part old new p e (p - new .adjustment)
 part-own old new p e w h =
-    record { oldPlaces = h .oldPlaces; newPlaces = h .newPlaces; within = h .within; ranked = refl }
+    record { oldPlaces = h .oldPlaces; newPlaces = h .newPlaces; within = h .within; limit = h .limit; ranked = refl }
 
 module _
     (a : Action) (start end : ℕ) (old : Placing) (f d w : ℕ)

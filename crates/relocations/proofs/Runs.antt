@@ -1,12 +1,15 @@
 -- Laws of turns, and of rows written in runs. Assumes nothing.
 use Prim.Native.Nat.{ℕ, _+_, _-_, _*_, _/_, _%_, _^_, min, _≤_, _<_}
 use mathlib.Core.Path.{_≡_, refl, _∙_, ap, ap₂}
+use mathlib.Core.Logic.{⊎-elim}
 use mathlib.Core.List.{List}
-use native.Mathlib.Nat.{le-mul-of-pos-right}
+use native.Mathlib.Nat.{add-mul, le-mul-of-pos-right}
 use native.Mathlib.Omega.{arith}
 use lib.ListN.{length}
 use lib.Seq.{sets}
 use Rattle.model.specs.Basics.{from}
+use Rattle.model.specs.Limits.{maxBuckets, label}
+use Rattle.model.proofs.Counts.{below-or}
 use Rattle.model.proofs.Tables.{from-ext}
 use Rattle.relocations.specs.Spans.{placedRow, pairRow, runRow, turn, withRows, Slotted, Turned, Runs}
 use Rattle.table.specs.Placing.{Places}
@@ -30,11 +33,25 @@ turned-slot f d rank s h =
     }
 
 module _ (f d rank : ℕ) (t : Turn) (fits : f + d < 2 ^ 32) (h : Turned f d rank t) where
-  position-low : h .position ≤ rank
-  position-low = omega (arith, h .whole, h .some, h .most, le-mul-of-pos-right {m = d} (h .position) (omega (arith, h .some, h .most)))
+  position-low : h .position ≤ label + rank
+  position-low =
+      ⊎-elim
+      (λ l. omega arith)
+      (λ l.
+      let past = h .position - label in
+      let counted : h .position ≡ past + label = omega arith in
+      omega (
+        arith,
+        h .whole,
+        h .most,
+        ap (λ p. p * d) counted,
+        add-mul past label d,
+        le-mul-of-pos-right {m = d} past (omega (arith, h .some, h .most)),
+      ))
+      (below-or (h .position) label)
 
   -- the numbers of a run fit
-  turned-fits : (k : ℕ) → k ≤ t .left → rank + 1 < 2 ^ 32 → t .place + k + 2 ^ 32 < 2 ^ 64
+  turned-fits : (k : ℕ) → k ≤ t .left → rank ≤ maxBuckets → t .place + k + 2 ^ 32 < 2 ^ 64
   turned-fits k l low = omega (arith, h .placed, position-low)
 
   -- the slots of a run
@@ -150,7 +167,7 @@ module _ (p : Placing) (b x : ℕ) (t : Turn) (h : Places p b) (l : b ≤ x) whe
       rw rank at (slots (p .first) (p .bins) (x - p .adjustment) t (h .fits) s (m - x) (omega arith))
 
   placed-fits
-      : (e k : ℕ) → Turned (p .first) (p .bins) (x - p .adjustment) t → k ≤ t .left → x < e → e < 2 ^ 32
+      : (e k : ℕ) → Turned (p .first) (p .bins) (x - p .adjustment) t → k ≤ t .left → x < e → e ≤ maxBuckets
       → t .place + k + 2 ^ 32 < 2 ^ 64
   placed-fits e k s few more fits =
       turned-fits (p .first) (p .bins) (x - p .adjustment) t (h .fits) s k few (omega arith)
@@ -198,7 +215,7 @@ module _
 
     -- its numbers fit
     pub turning-fits
-        : (k : ℕ) → k ≤ here .left → k ≤ there .left → 0 < left → end < 2 ^ 32
+        : (k : ℕ) → k ≤ here .left → k ≤ there .left → 0 < left → end ≤ maxBuckets
         → (here .place + k + 2 ^ 32 < 2 ^ 64) × (there .place + k + 2 ^ 32 < 2 ^ 64)
     turning-fits k l l′ some small = (
       placed-fits old bucket x here o (s .done .after) end k (s .oldTurn) l (omega (arith, s .ends)) small,

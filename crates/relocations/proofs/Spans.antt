@@ -3,11 +3,12 @@ use Prim.Native.Nat.{ℕ, _+_, _-_, _*_, _/_, _%_, _^_, min, _≤_, _<_}
 use mathlib.Core.Path.{_≡_, refl, sym, _∙_, ap, ap₂}
 use mathlib.Core.Logic.{⊎-elim}
 use mathlib.Core.List.{List, [], _∷_, _++_, append-nil, append-assoc}
-use native.Mathlib.Nat.{div-add-mod', mod-lt, mul-add-mod-self-right, mod-eq-of-lt, mul-add-div-right, div-eq-of-lt, add-zero, le-mul-of-pos-right}
+use native.Mathlib.Nat.{div-add-mod', mod-lt, mul-add-mod-self-right, mod-eq-of-lt, mul-add-div-right, div-eq-of-lt, add-zero, add-mul, div-le-self}
 use native.Mathlib.Omega.{arith}
 use lib.ListN.{length, take, drop, length-append, length-drop, take-append-drop}
 use lib.Seq.{sets, sets-eq, length-take-le, take-at, drop-append-add, drop-drop}
 use Rattle.model.specs.Basics.{from, joined}
+use Rattle.model.specs.Limits.{maxBuckets, label}
 use Rattle.model.specs.Table.{over}
 use Rattle.model.specs.Relocations.{page}
 use Rattle.model.proofs.Counts.{below-or}
@@ -23,7 +24,7 @@ use Rattle.table.specs.declared.Slot.{Slot}
 
 module _ (f d rank : ℕ) (s : Slot) (h : Slotted f d rank s) where
   -- the bin counted from the block's first
-  slot-counted : s .position * d + (s .bin - f) ≡ rank
+  slot-counted : s .position * d + (s .bin - f) ≡ label * d + rank
   slot-counted = omega (arith, h .after, h .whole)
 
   slot-below : s .bin - f < d
@@ -36,15 +37,17 @@ module _ (f d rank : ℕ) (s : Slot) (h : Slotted f d rank s) where
         h .after,
         ap (λ r. r % d) slot-counted,
         mul-add-mod-self-right (s .position) d (s .bin - f),
+        mul-add-mod-self-right label d rank,
         mod-eq-of-lt slot-below,
       )
 
-  slot-position : s .position ≡ rank / d
+  slot-position : s .position ≡ rank / d + label
   slot-position =
       omega (
         arith,
         ap (λ r. r / d) slot-counted,
         mul-add-div-right {m = d} (omega (arith, slot-below)) (s .position) (s .bin - f),
+        mul-add-div-right {m = d} (omega (arith, slot-below)) label rank,
         div-eq-of-lt slot-below,
       )
 
@@ -54,19 +57,19 @@ pub slot-placed
 slot-placed {p} {x} {s} h e =
     let rank = x - p .adjustment in
     let bin : s .bin ≡ p .first + rank % p .bins = ap (λ s. s .bin) e in
-    let position : s .position ≡ rank / p .bins = ap (λ s. s .position) e in
+    let position : s .position ≡ rank / p .bins + label = ap (λ s. s .position) e in
     record {
       after = omega (arith, bin);
       within = omega (arith, bin, mod-lt rank (h .some));
-      whole = rw position (omega (arith, bin, div-add-mod' rank (p .bins)));
+      whole = rw position (omega (arith, bin, add-mul (rank / p .bins) label (p .bins), div-add-mod' rank (p .bins)));
     }
 
 -- the slot of a bucket below another has a next position
 pub slot-next
-    : (f d x adjustment end : ℕ) (s : Slot) → 1 ≤ d → Slotted f d (x - adjustment) s → x < end → end < 2 ^ 32
+    : (f d x adjustment end : ℕ) (s : Slot) → Slotted f d (x - adjustment) s → x < end → end ≤ maxBuckets
     → s .position + 1 < 2 ^ 32
-slot-next f d x adjustment end s some h l fits =
-    omega (arith, h .after, h .whole, le-mul-of-pos-right {m = d} (s .position) some)
+slot-next f d x adjustment end s h l limit =
+    omega (arith, slot-position f d (x - adjustment) s h, div-le-self (x - adjustment) d)
 
 slot-stepped
     : (f d x adjustment : ℕ) (s s′ : Slot) → 1 ≤ d → adjustment ≤ x → Slotted f d (x - adjustment) s → Steps f (f + d - 1) s s′
@@ -85,8 +88,8 @@ row-slots old new x s s′ h h′ =
     rw (slot-bin _ _ _ s h, slot-position _ _ _ s h, slot-bin _ _ _ s′ h′, slot-position _ _ _ s′ h′)
 
 -- what places a bucket places the later ones
-pub places-later : (p : Placing) (x y : ℕ) → x ≤ y → Places p x → Places p y
-places-later p x y l h = record { some = h .some; fits = h .fits; ranked = omega (arith, h .ranked) }
+pub places-later : (p : Placing) (x y : ℕ) → x ≤ y → y ≤ maxBuckets → Places p x → Places p y
+places-later p x y l limit h = record { some = h .some; fits = h .fits; ranked = omega (arith, h .ranked); limit = limit }
 
 -- ROWS IN A BUFFER
 

@@ -9,6 +9,7 @@ use native.Mathlib.Numerals.{add-one}
 use native.Mathlib.Omega.{arith}
 use lib.ListN.{length, getD, length-append}
 use Rattle.model.specs.Basics.{from, joined, before}
+use Rattle.model.specs.Limits.{maxBuckets}
 use Rattle.model.specs.Table.{Shape, Interval, Arrays, table, bins, shape, over}
 use Rattle.model.specs.Refusal.{first}
 use Rattle.model.specs.Sound.{Formed}
@@ -185,16 +186,24 @@ module _
         let below = formed .blocksBelow i l in
         let low = here .1 .cut .after in
         let few = rows-few start (omega (arith, low, here .1 .cut .within)) in
+        let limit : end ≤ maxBuckets = omega (arith, end-within h a formed i l, formed .bucketLimit) in
         record {
           oldPlaces =
               record {
                 some = omega (arith, formed .topsRise j below);
                 fits = omega (arith, formed .topsRise j below, top-within j below);
                 ranked = omega (arith, adjustment-most h a formed i l);
+                limit = omega (arith, here .1 .cut .within);
               };
           newPlaces =
-              record { some = omega (arith, new-bins); fits = omega (arith, new-bins); ranked = omega arith };
+              record {
+                some = omega (arith, new-bins);
+                fits = omega (arith, new-bins);
+                ranked = omega arith;
+                limit = omega (arith, here .1 .cut .within);
+              };
           within = here .1 .cut .within;
+          limit = limit;
           ranked = omega arith;
         }
 

@@ -6,6 +6,7 @@ use mathlib.Core.Bool.{true}
 use lib.Dec.{eqb}
 use lib.ListN.{length, take, drop}
 use Rattle.model.specs.Basics.{if_then_else_, from, joined}
+use Rattle.model.specs.Limits.{maxBuckets, label}
 use Rattle.model.specs.Table.{Shape, Interval, interval, Table}
 use Rattle.model.specs.Refusal.{first}
 use Rattle.model.specs.Expansion.{parts, someFall, expanded}
@@ -13,7 +14,7 @@ use Rattle.model.specs.Relocations.{rows, page}
 use Rattle.model.specs.Calls.{growthTests}
 use Rattle.model.specs.declared.plan.Action.{Action}
 use Rattle.expansion_plan.specs.Shares.{DuesAfter}
-use Rattle.table.specs.Placing.{placing, Places}
+use Rattle.table.specs.Placing.{placing, Places, slotOf}
 use Rattle.table.specs.declared.Placing.{Placing}
 use Rattle.table.specs.declared.Slot.{Slot}
 use Rattle.relocations.specs.declared.Turn.{Turn}
@@ -21,12 +22,7 @@ use Rattle.relocations.specs.declared.Turn.{Turn}
 -- the row of bucket x, whose old place goes by `old` and its new one by `new`
 unfoldable pub placedRow : Placing → Placing → ℕ → List ℕ
 placedRow old new x =
-    x
-    ∷ (old .first + (x - old .adjustment) % old .bins)
-    ∷ ((x - old .adjustment) / old .bins)
-    ∷ (new .first + (x - new .adjustment) % new .bins)
-    ∷ ((x - new .adjustment) / new .bins)
-    ∷ []
+    x ∷ slotOf old x .bin ∷ slotOf old x .position ∷ slotOf new x .bin ∷ slotOf new x .position ∷ []
 
 -- the row of bucket x whose two places are given as pairs
 unfoldable pub pairRow : ℕ → ℕ → ℕ → List ℕ
@@ -52,11 +48,11 @@ partRows g old f d start (i ∷ rest) =
 unfoldable pub paged : ℕ → ℕ → List (List ℕ) → List ℕ → List ℕ
 paged q w rs buffer = withRows (w - q) (page (q - w) (length buffer - 5 * (w - q)) rs) buffer
 
--- the slot of a rank in a block of d bins from f on
+-- the slot of a rank in a block of d bins from f on: the labels take the first positions of all of them
 pub record Slotted (f d rank : ℕ) (s : Slot) : Type 0 where
   pub after : f ≤ s .bin
   pub within : s .bin < f + d
-  pub whole : s .position * d + s .bin ≡ f + rank
+  pub whole : s .position * d + s .bin ≡ f + (label * d + rank)
 
 -- from the slot of a rank to that of the next, in a block of the bins from f to l
 abbrev pub Steps : ℕ → ℕ → Slot → Slot → Type 0
@@ -71,7 +67,7 @@ pub record Turned (f d rank : ℕ) (t : Turn) : Type 0 where
   pub some : 1 ≤ t .left
   pub most : t .left ≤ d
   pub placed : t .place + t .left ≡ f + d + position * 2 ^ 32
-  pub whole : position * d + d ≡ rank + t .left
+  pub whole : position * d + d ≡ label * d + rank + t .left
 
 -- from the turn of a rank to that of the rank k later, in a block of d bins
 abbrev pub Runs : ℕ → ℕ → Turn → Turn → Type 0
@@ -82,6 +78,7 @@ pub record Part (old new : Placing) (p e w : ℕ) : Type 0 where
   pub oldPlaces : Places old p
   pub newPlaces : Places new p
   pub within : p ≤ e
+  pub limit : e ≤ maxBuckets
   pub ranked : p - new .adjustment ≡ w
 
 -- parts of an interval that starts at `start`, of which the same holds for those of block g

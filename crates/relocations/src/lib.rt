@@ -6,6 +6,7 @@ ghost use lib.ListN.{length};
 ghost use lib.Seq.{sets};
 ghost use Rattle.model.specs.Lent.{LentFormed, lent, tableGiven, tableNow};
 ghost use Rattle.model.specs.Basics.{from, joined};
+ghost use Rattle.model.specs.Limits.{maxBuckets};
 ghost use Rattle.model.specs.Table.{arrays, interval, over, sizes};
 ghost use Rattle.model.specs.Refusal.{first as firstOf};
 ghost use Rattle.model.specs.Sound.{Formed};
@@ -193,7 +194,7 @@ fn write_runs(
     at: usize,
     rows: &mut [u32],
 )
-    requires { ⌜ Places old bucket × Places new bucket ⌝ }
+    requires { ⌜ Places old bucket × Places new bucket × (end ≤ maxBuckets) ⌝ }
     requires { ⌜ Slotted (old .first) (old .bins) (bucket - old .adjustment) «old_slot» ⌝ }
     requires { ⌜ Slotted (new .first) (new .bins) (bucket - new .adjustment) «new_slot» ⌝ }
     requires { ⌜ (bucket ≤ end) × (5 * (at + (end - bucket)) ≤ length (now rows)) ⌝ }
@@ -218,7 +219,7 @@ fn write_runs(
 // The rows of the buckets from `bucket` up to `end`, from row number `at` on: in runs where both blocks are wide, else by slots
 // that step from row to row. Past the first row nothing is divided.
 fn write_span(old: Placing, new: Placing, bucket: u32, end: u32, at: usize, rows: &mut [u32])
-    requires { ⌜ Places old bucket × Places new bucket ⌝ }
+    requires { ⌜ Places old bucket × Places new bucket × (end ≤ maxBuckets) ⌝ }
     requires { ⌜ (bucket ≤ end) × (5 * (at + (end - bucket)) ≤ length (now rows)) ⌝ }
     ensures { λ _. ⌜ now (rows .exit) ≡ withRows at (from (placedRow old new) bucket (end - bucket)) (now (rows .entry)) ⌝ }
 {

@@ -1,6 +1,7 @@
 // The sizes and the capacity asked for, the room for tables, and the initial table.
 use model::limits::BLOCKS;
 use model::limits::INTERVALS;
+use model::limits::LABEL;
 use model::limits::MAX_BINS;
 use model::limits::MAX_BUCKETS;
 use model::limits::MAX_EXPANSIONS;
@@ -81,18 +82,19 @@ pub fn size_refusal(buckets: u32, bins: u32) -> u32
     0
 }
 
-// Whether some bin of a map of the given sizes is due more than the capacity. The first bin is due the most, B / n rounded up.
+// Whether some bin of a map of the given sizes would be overfull: what it is due and its label have more positions than the
+// capacity. The first bin is due the most, B / n rounded up, so it is asked whether all bins have fewer than all buckets and labels.
 pub fn overfull(capacity: u32, buckets: u32, bins: u32) -> bool
     requires { ⌜ 1 ≤ bins ⌝ }
     ensures { λ r. ⌜ r ≡ overfills capacity (sizes buckets bins) ⌝ }
 {
-    if (capacity as u64) * (bins as u64) < (buckets as u64) {
+    if (capacity as u64) * (bins as u64) < (buckets as u64) + (LABEL as u64) * (bins as u64) {
         return true;
     }
     false
 }
 
-// 31: some bin of the map asked for would be due more than the capacity. Its number, or 0.
+// 31: some bin of the map asked for would be overfull. Its number, or 0.
 pub fn overfull_refusal(capacity: u32, buckets: u32, bins: u32) -> u32
     requires { ⌜ 1 ≤ bins ⌝ }
     ensures { λ r. ⌜ r ≡ first ((31, overfills capacity (sizes buckets bins)) ∷ []) ⌝ }

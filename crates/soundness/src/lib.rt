@@ -342,7 +342,7 @@ fn rule_refusal(h: Header, tops: &[u32], ends: &[u32], blocks: &[u32], adjustmen
     judged(h, tops, ends, blocks, adjustments)
 }
 
-// 30: P is 0 or above its limit, or below the size of the largest bin. In a map that passes rules 11 to 16 every bin has its due.
+// 30: P is 0 or above its limit, or some bin is overfull. In a map that passes rules 11 to 16 every bin has its due.
 pub fn capacity_wrong(h: Header, tops: &[u32]) -> bool
     requires { ⌜ TopsFormed h (now tops) ⌝ }
     ensures { λ r. ⌜ ((ends blocks adjustments : List ℕ) → Formed h (arrays (now (tops .entry)) ends blocks adjustments)

@@ -1,6 +1,7 @@
 // What every layer reads of a table: the entry before a place, the number of bins, what bins are due, and how the buckets of an
 // interval are placed; and the copying of an array.
 use model::limits::INTERVALS;
+use model::limits::LABEL;
 use model::table::Header;
 use reciprocal::Reciprocal;
 use reciprocal::quotient;
@@ -70,7 +71,7 @@ pub fn placing_of(tops: &[u32], block: usize, adjustment: u32) -> Placing
     }
 }
 
-// The slot of a bucket: document 01's drawer and position of its rank.
+// The slot of a bucket: document 01's drawer and position of its rank, past the label.
 pub fn slot_of(placing: Placing, bucket: u32) -> Slot
     requires { ⌜ Places placing bucket ⌝ }
     ensures { λ r. ⌜ r ≡ slotOf placing bucket ⌝ }
@@ -78,20 +79,20 @@ pub fn slot_of(placing: Placing, bucket: u32) -> Slot
     let rank = bucket - placing.adjustment;
     Slot {
         bin: placing.first + rank % placing.bins,
-        position: rank / placing.bins,
+        position: rank / placing.bins + LABEL,
     }
 }
 
 // The same by the reciprocal of the bins, for many buckets of one interval.
 pub fn slot_by(placing: Placing, by: Reciprocal, bucket: u32) -> Slot
-    requires { ⌜ (Places placing bucket) × (bucket < 2 ^ 30) × Divides by (placing .bins) ⌝ }
+    requires { ⌜ (Places placing bucket) × Divides by (placing .bins) ⌝ }
     ensures { λ r. ⌜ r ≡ slotOf placing bucket ⌝ }
 {
     let rank = bucket - placing.adjustment;
-    let position = quotient(rank, by);
+    let turns = quotient(rank, by);
     Slot {
-        bin: placing.first + (rank - position * placing.bins),
-        position,
+        bin: placing.first + (rank - turns * placing.bins),
+        position: turns + LABEL,
     }
 }
 

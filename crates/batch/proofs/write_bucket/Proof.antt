@@ -14,7 +14,7 @@ shared-slice-read-write-place c = omega arith
 write-place-requires : tie.Need-write-place-requires
 write-place-requires c κs =
     let a = c .before .before .before .before .pre in
-    ((a .0 .places _ (le-refl _) (a .1), a .0 .small _ (a .1), a .0 .divides), omega (arith, a .0 .room, a .1))
+    ((a .0 .places _ (le-refl _) (a .1), a .0 .divides), omega (arith, a .0 .room, a .1))
 
 same-length : tie.Need-same-length
 same-length c = search needs

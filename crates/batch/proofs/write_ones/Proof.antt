@@ -33,7 +33,7 @@ write-place-requires c κs =
     let in-loop = c .before .before .before in
     let f = in-loop .before .loop .inv in
     let asked = in-loop .before .before .before .before .pre .0 in (
-      (asked .places _ (f .on) (in-loop .loop-test .taken), asked .small _ (in-loop .loop-test .taken), asked .divides),
+      (asked .places _ (f .on) (in-loop .loop-test .taken), asked .divides),
       omega (arith, in-loop .loop-test .taken, put-length (f .put), asked .room),
     )
 

@@ -1,11 +1,11 @@
 -- `batch::write_place` meets its contract: two stores. Assumes nothing.
 use Prim.Native.Nat.{_*_}
-use mathlib.Core.Path.{ap}
+use mathlib.Core.Path.{_∙_, ap}
 use mathlib.Core.List.{[], _∷_}
-use native.Mathlib.Numerals.{towards-suc}
 use native.Mathlib.Omega.{arith}
 use lib.ListN.{length-set}
 use lib.Seq.{sets}
+use Rattle.model.proofs.Entries.{two-stores}
 use Rattle.batch.proofs.write_place.Statement.{statement}
 use Rattle.batch.proofs.write_place.Tie as tie
 
@@ -39,8 +39,8 @@ same-length c = simp length-set
 returns : tie.Need-returns
 returns c =
     let start = c .before .before in
-    simp towards-suc
-    (ap (λ s. sets (start .args .out .now) (2 * start .args .i) (s .bin ∷ s .position ∷ [])) (c .slot-by .ensures))
+    two-stores (start .args .out .now) (2 * start .args .i) (c .slot-by .result .bin) (c .slot-by .result .position)
+    ∙ ap (λ s. sets (start .args .out .now) (2 * start .args .i) (s .bin ∷ s .position ∷ [])) (c .slot-by .ensures)
 
 pub write-place-spec : {M : Type 1} → statement M
 write-place-spec =

@@ -8,7 +8,7 @@ use lib.Seq.{length-sets}
 use borrow.Author.Needs.{needs}
 use Rattle.model.specs.Decimal.{decimal}
 use Rattle.model.proofs.Entries.{put-none, put-more}
-use Rattle.decimal.specs.Parts.{pairOf}
+use Rattle.digits.specs.Parts.{pairOf}
 use Rattle.decimal.proofs.Leading.{below-most, lead-done, lead-six}
 use Rattle.decimal.proofs.put_six.Statement.{statement}
 use Rattle.decimal.proofs.put_six.Tie as tie

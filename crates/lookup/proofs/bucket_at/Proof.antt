@@ -4,6 +4,7 @@ use mathlib.Core.Path.{_≡_, refl, sym, _∙_}
 use native.Mathlib.Omega.{arith}
 use lib.ListN.{getD}
 use Rattle.model.specs.Basics.{before}
+use Rattle.model.specs.Limits.{label}
 use Rattle.model.specs.Table.{Arrays, arrays, table}
 use Rattle.model.specs.Search.{rankAt, holder}
 use Rattle.model.specs.declared.search.Holder.the-variants.{In}
@@ -28,7 +29,7 @@ before-requires c κs =
     let start = c .before .before .before .before .before .before in
     omega (
       arith,
-      block-below (start .args .h) (lists start) (start .pre .0) _ (start .args .position) (start .pre .1)
+      block-below (start .args .h) (lists start) (start .pre .0) _ (start .args .past) (start .pre .1)
           _ (before (start .args .tops .now) (c .block-of-bin .result)) (c .block-of-bin .ensures) refl .0,
       start .pre .0 .topsLong,
     )
@@ -45,14 +46,14 @@ low c = c .before .before2 .result
 
 abbrev rank : tie.After-shared-slice-known5 → ℕ
 rank c =
-    entry c .args .position * (getD (entry c .args .tops .now) (block c) 0 - low c) + (entry c .args .bin - low c)
+    entry c .args .past * (getD (entry c .args .tops .now) (block c) 0 - low c) + (entry c .args .bin - low c)
 
 record Here (c : tie.After-shared-slice-known5) : Type 0 where
   below : block c < entry c .args .h .«block_count»
   under : low c ≤ entry c .args .bin
   rise : low c < getD (entry c .args .tops .now) (block c) 0
   top : getD (entry c .args .tops .now) (block c) 0 < 2 ^ 32
-  ranked : rank c ≡ rankAt (table (entry c .args .h) (lists (entry c)) .tops) (entry c .args .bin) (entry c .args .position)
+  ranked : rank c ≡ rankAt (table (entry c .args .h) (lists (entry c)) .tops) (entry c .args .bin) (entry c .args .past + label)
   fits : rank c + 2 ^ 32 ≤ 2 ^ 64
 
 here : (c : tie.After-shared-slice-known5) → Here c
@@ -61,7 +62,7 @@ here c =
     let e = c .before .before .block-of-bin .ensures in
     let f = c .before .before2 .ensures in
     let (below, under, rise) =
-    block-below (start .args .h) (lists start) (start .pre .0) _ (start .args .position) (start .pre .1) (block c) (low c) e f in
+    block-below (start .args .h) (lists start) (start .pre .0) _ (start .args .past) (start .pre .1) (block c) (low c) e f in
     let top : getD (start .args .tops .now) (block c) 0 < 2 ^ 32 = omega (arith, c .shared-slice-known5 .given (block c)) in
     record {
       below = below;
@@ -69,7 +70,7 @@ here c =
       rise = rise;
       top = top;
       ranked = rank-here (start .args .h) (lists start) (start .pre .0) _ _ (start .pre .1) (block c) (low c) e f;
-      fits = rank-fits (start .args .position) _ _ (omega arith) (omega arith) (omega arith);
+      fits = rank-fits (start .args .past) _ _ (omega arith) (omega arith) (omega arith);
     }
 
 mul-rank : tie.Need-mul-rank
@@ -77,7 +78,7 @@ mul-rank c =
     let start = c .before .before .before .before .before .before .before in
     omega (
       arith,
-      block-below (start .args .h) (lists start) (start .pre .0) _ (start .args .position) (start .pre .1)
+      block-below (start .args .h) (lists start) (start .pre .0) _ (start .args .past) (start .pre .1)
           _ _ (c .before .block-of-bin .ensures) (c .before2 .ensures) .0,
       start .pre .0 .topsLong,
     )

@@ -18,6 +18,7 @@ slot-of-requires c κs =
       some = omega (arith, ap (λ q. q .bins) (p .0), c .before .before .pre .1);
       fits = p .1;
       ranked = omega (arith, ap (λ q. q .adjustment) (p .0));
+      limit = c .before .before .pre .2;
     }
 
 returns : tie.Need-returns

@@ -32,7 +32,9 @@ abbrev lists : tie.Start → Arrays
 lists c = arrays (c .args .tops .now) (c .args .ends .now) (c .args .blocks .now) (c .args .adjustments .now)
 
 -- the interval that was found
-found : (c : tie.After-known-told) → Reached (entry c .args .h) (lists (entry c)) (c .before .interval .given .0 .0)
+found
+    : (c : tie.After-known-told)
+    → Reached (entry c .args .h) (lists (entry c)) (c .before .interval .given .0 .0) (c .before .interval .given .0 .1 .0)
 found c = reached _ _ (entry c .pre) _ _ _ (sym (c .before .before .before .locate .ensures _ _ (entry c .pre)) ∙ c .before .interval .given .1)
 
 mul-place-in : tie.Need-mul-place-in
@@ -47,7 +49,8 @@ cast-place-in c = let f = found (c .before) in omega arith
 place-in-requires : tie.Need-place-in-requires
 unfolding firstBin
 place-in-requires c κs =
-    let f = found (c .before) in (omega arith, entry (c .before) .pre .topsRise _ (f .blockBelow))
+    let f = found (c .before) in
+    (omega arith, entry (c .before) .pre .topsRise _ (f .blockBelow), omega (arith, f .rankBelow, entry (c .before) .pre .bucketLimit))
 
 returns-2 : tie.Need-returns-2
 returns-2 c =

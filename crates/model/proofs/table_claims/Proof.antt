@@ -1,11 +1,11 @@
 -- `model::table_claims` meets its contract: a proof of each claim. Assumes nothing.
-use Rattle.model.proofs.Soundness.{sound-iff, capacity-last, same-sound, initial-sound, written-read, initial-read}
+use Rattle.model.proofs.Soundness.{sound-iff, capacity-last, same-sound, initial-sound, written-read, initial-read, fresh-small, lent-small}
 use Rattle.model.proofs.Capacities.{overfills-where, held-within}
 use Rattle.model.proofs.Places.{size-due, table-balanced}
-use Rattle.model.proofs.Finds.{find-placed, place-found, find-refused}
+use Rattle.model.proofs.Finds.{position-source, position-below, find-placed, place-found, find-refused}
 use Rattle.model.proofs.Searches.{place-refused}
 use Rattle.model.proofs.Batches.{falls-where, places-single}
-use Rattle.model.proofs.Files.{load-sound, load-read, save-length, saved-loaded, loaded-saved}
+use Rattle.model.proofs.Files.{load-sound, load-read, load-small, save-length, saved-loaded, loaded-saved}
 use Rattle.model.proofs.table_claims.Statement.{statement}
 use Rattle.model.proofs.table_claims.Tie as tie
 
@@ -15,6 +15,7 @@ returns c =
       soundIff = sound-iff;
       capacityLast = capacity-last;
       overfillsWhere = overfills-where;
+      labelAlone = (fresh-small, lent-small, load-small);
       sameSound = same-sound;
       initialSound = initial-sound;
       loadSound = load-sound;
@@ -24,6 +25,8 @@ returns c =
       sizeDue = size-due;
       tableBalanced = table-balanced;
       noneOverfull = held-within;
+      positionSource = position-source;
+      positionBelow = position-below;
       findPlaced = find-placed;
       placeFound = place-found;
       placeRefused = place-refused;

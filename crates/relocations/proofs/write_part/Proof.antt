@@ -71,7 +71,11 @@ write-span-requires-2 : tie.Need-write-span-requires-2
 write-span-requires-2 c κs =
     let start = c .before .before .before .before .before .before .before .before in
     let skip = c .before .before .before .before .before .excess .result in (
-      (places-later _ _ _ (omega arith) (start .pre .oldPlaces), places-later _ _ _ (omega arith) (start .pre .newPlaces)),
+      (
+        places-later _ _ _ (omega arith) (omega arith) (start .pre .oldPlaces),
+        places-later _ _ _ (omega arith) (omega arith) (start .pre .newPlaces),
+        omega arith,
+      ),
       room-fits _ (c .before .before .before .before .excess2 .result) (start .args .bucket + skip) (c .before .before .if2 .left),
     )
 

@@ -1,7 +1,11 @@
 -- `relocations::write_row` meets its contract: five stores. Assumes nothing.
+use Prim.Native.Nat.{ℕ, _+_}
+use mathlib.Core.Path.{_≡_}
+use mathlib.Core.List.{List, [], _∷_}
 use native.Mathlib.Numerals.{towards-suc}
 use native.Mathlib.Omega.{arith}
-use lib.ListN.{length-set}
+use lib.ListN.{set, length-set}
+use lib.Seq.{sets}
 use borrow.Author.Needs.{needs}
 use Rattle.relocations.proofs.write_row.Statement.{statement}
 use Rattle.relocations.proofs.write_row.Tie as tie
@@ -51,8 +55,16 @@ slice-write-rows-5 c = simp length-set (omega arith)
 same-length : tie.Need-same-length
 same-length c = simp length-set
 
+-- five numbers, one behind the other
+five-stores
+    : (l : List ℕ) (o a b c d e : ℕ)
+    → set (set (set (set (set l o a) (o + 1) b) (o + 2) c) (o + 3) d) (o + 4) e ≡ sets l o (a ∷ b ∷ c ∷ d ∷ e ∷ [])
+five-stores l o a b c d e = simp towards-suc
+
 returns : tie.Need-returns
-returns c = simp towards-suc
+returns c =
+    five-stores (c .args .rows .now) (c .args .at) (c .args .bucket) (c .args .old-bin) (c .args .old-position) (c .args .new-bin)
+    (c .args .new-position)
 
 pub write-row-spec : {M : Type 1} → statement M
 write-row-spec =

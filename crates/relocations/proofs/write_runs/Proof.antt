@@ -44,7 +44,7 @@ module _ (c : tie.After-smaller2 Inv-loop μ-loop) where
       let s = start turn in
       turning-fits (s .pre .0 .0) (s .pre .0 .1) (s .pre .1 .1 .1 .1) (turn .loop .inv) (c .smaller2 .result) (few .2) (few .3)
       (c .before .before .loop-test .taken)
-      (s .fits .end .fits)
+      (s .pre .0 .2)
 
 turn-of-requires : tie.Need-turn-of-requires Inv-loop μ-loop
 turn-of-requires c κs = omega (arith, c .before .pre .0 .0 .fits, c .before .pre .1 .0 .within)

@@ -4,7 +4,7 @@ use native.Mathlib.Nat.{lt-of-le-of-lt}
 use native.Mathlib.Omega.{arith}
 use borrow.Author.Count.{falls}
 use borrow.Author.Needs.{needs}
-use Rattle.relocations.proofs.Spans.{slot-placed, places-later, slot-next, Spanning, spanning-room, spanning-starts, spanning-length, spanning-more, spanning-ends}
+use Rattle.relocations.proofs.Spans.{slot-placed, slot-next, Spanning, spanning-room, spanning-starts, spanning-length, spanning-more, spanning-ends}
 use Rattle.relocations.proofs.write_span.Statement.{statement}
 use Rattle.relocations.proofs.write_span.Tie as tie
 
@@ -33,10 +33,10 @@ sub-new-last : tie.Need-sub-new-last Inv-loop μ-loop
 sub-new-last c = omega (arith, c .before .before .before .pre .0 .1 .some)
 
 slot-of-requires : tie.Need-slot-of-requires Inv-loop μ-loop
-slot-of-requires c κs = places-later _ _ _ (omega arith) (c .before .before .before .pre .0 .0)
+slot-of-requires c κs = c .before .before .before .pre .0 .0
 
 slot-of-requires-2 : tie.Need-slot-of-requires-2 Inv-loop μ-loop
-slot-of-requires-2 c κs = places-later _ _ _ (omega arith) (c .before .before .before .before .pre .0 .1)
+slot-of-requires-2 c κs = c .before .before .before .before .pre .0 .1
 
 smaller-requires : tie.Need-smaller-requires Inv-loop μ-loop
 smaller-requires c κs = search needs
@@ -74,20 +74,18 @@ next-slot-requires c κs =
     let at = c .before .before .before .before .before in
     let s = start at in
     slot-next (s .args .old .first) (s .args .old .bins) (at .loop .x) (s .args .old .adjustment) (s .args .end) (at .loop .here)
-    (s .pre .0 .0 .some)
     (at .loop .inv .oldSlot)
     (c .before .before .before .before .loop-test .taken)
-    (s .fits .end .fits)
+    (s .pre .0 .2)
 
 next-slot-requires-2 : tie.Need-next-slot-requires-2 Inv-loop μ-loop
 next-slot-requires-2 c κs =
     let at = c .before .before .before .before .before .before in
     let s = start at in
     slot-next (s .args .new .first) (s .args .new .bins) (at .loop .x) (s .args .new .adjustment) (s .args .end) (at .loop .there)
-    (s .pre .0 .1 .some)
     (at .loop .inv .newSlot)
     (c .before .before .before .before .before .loop-test .taken)
-    (s .fits .end .fits)
+    (s .pre .0 .2)
 
 add-x : tie.Need-add-x Inv-loop μ-loop
 add-x c =

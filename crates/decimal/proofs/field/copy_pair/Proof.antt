@@ -2,7 +2,8 @@
 use native.Mathlib.Omega.{arith}
 use lib.ListN.{length-set}
 use borrow.Author.Needs.{needs}
-use Rattle.decimal.proofs.Pairs.{pair-stored, pairs-long, pair-at}
+use Rattle.decimal.proofs.Pairs.{pairs-long, pair-at}
+use Rattle.digits.proofs.Stores.{pair-stored}
 use Rattle.decimal.proofs.field.copy_pair.Statement.{statement}
 use Rattle.decimal.proofs.field.copy_pair.Tie as tie
 

@@ -8,7 +8,7 @@ use lib.Seq.{sets, length-sets}
 use borrow.Author.Needs.{needs}
 use Rattle.model.specs.Sheet.{field}
 use Rattle.model.proofs.Entries.{put-none, put-more}
-use Rattle.decimal.specs.Parts.{fourOf}
+use Rattle.digits.specs.Parts.{fourOf}
 use Rattle.decimal.proofs.Fields.{nine-field}
 use Rattle.decimal.proofs.field.put_nine.Statement.{statement}
 use Rattle.decimal.proofs.field.put_nine.Tie as tie

@@ -6,7 +6,8 @@ use lib.Seq.{sets}
 use Rattle.model.specs.Basics.{from, joined}
 use Rattle.model.proofs.Entries.{Put, put-none, put-length}
 use Rattle.model.proofs.Parts.{part-stored}
-use Rattle.decimal.specs.Parts.{pairOf, pairsTo}
+use Rattle.digits.specs.Parts.{pairOf}
+use Rattle.decimal.specs.Parts.{pairsTo}
 use Rattle.decimal.proofs.field.put_pairs.Statement.{statement}
 use Rattle.decimal.proofs.field.put_pairs.Tie as tie
 

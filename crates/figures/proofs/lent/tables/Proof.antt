@@ -5,10 +5,10 @@ use Rattle.figures.proofs.lent.tables.Statement.{statement}
 use Rattle.figures.proofs.lent.tables.Tie as tie
 
 abbrev Inv-loop : tie.InvT-loop
-Inv-loop i₀ t2 t3 t4 i = i ≤ 25
+Inv-loop i₀ t2 t3 t4 i = i ≤ 27
 
 abbrev μ-loop : tie.MeasureT-loop
-μ-loop i₀ t2 t3 t4 i = 25 - i
+μ-loop i₀ t2 t3 t4 i = 27 - i
 
 loop-holds : tie.Need-loop-holds Inv-loop μ-loop
 loop-holds c = search needs

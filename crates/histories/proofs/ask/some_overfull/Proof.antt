@@ -16,6 +16,9 @@ loop-holds c = search needs
 due-size-requires : tie.Need-due-size-requires Inv-loop μ-loop
 due-size-requires c κs = search needs
 
+plus-requires : tie.Need-plus-requires Inv-loop μ-loop
+plus-requires c κs = search needs
+
 returns : tie.Need-returns Inv-loop μ-loop
 returns c = search needs
 
@@ -39,6 +42,7 @@ some-overfull-spec =
     μ-loop
     loop-holds
     due-size-requires
+    plus-requires
     returns
     add-bin
     loop-less

@@ -22,8 +22,8 @@ get-requires c κs = search needs
 bin-size-requires : tie.Need-bin-size-requires Inv-loop μ-loop
 bin-size-requires c κs = search needs
 
-find-requires : tie.Need-find-requires Inv-loop μ-loop
-find-requires c κs = search needs
+edges-requires : tie.Need-edges-requires Inv-loop μ-loop
+edges-requires c κs = search needs
 
 plus-requires : tie.Need-plus-requires Inv-loop μ-loop
 plus-requires c κs = search needs
@@ -47,7 +47,7 @@ bins-spec =
     add-next
     get-requires
     bin-size-requires
-    find-requires
+    edges-requires
     plus-requires
     loop-less
     loop-again

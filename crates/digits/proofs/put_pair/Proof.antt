@@ -1,12 +1,12 @@
--- `decimal::digits::put_pair` meets its contract: below 100, 103 / 1024 of a number is a tenth. Assumes nothing.
+-- `digits::put_pair` meets its contract: below 100, 103 / 1024 of a number is a tenth. Assumes nothing.
 use Prim.Native.Nat.{ℕ, _*_, _/_, _<_}
 use mathlib.Core.Path.{_≡_}
 use native.Mathlib.Omega.{arith}
 use lib.ListN.{length-set}
 use borrow.Author.Needs.{needs}
-use Rattle.decimal.proofs.Pairs.{pair-stored}
-use Rattle.decimal.proofs.digits.put_pair.Statement.{statement}
-use Rattle.decimal.proofs.digits.put_pair.Tie as tie
+use Rattle.digits.proofs.Stores.{pair-stored}
+use Rattle.digits.proofs.put_pair.Statement.{statement}
+use Rattle.digits.proofs.put_pair.Tie as tie
 
 -- the tens
 tenth : (p : ℕ) → p < 100 → p * 103 / 1024 ≡ p / 10

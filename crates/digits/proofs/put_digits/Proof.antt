@@ -1,14 +1,14 @@
--- `decimal::digits::put_digits` meets its contract: the halves, the pairs and the digits of a number side by side in a word.
+-- `digits::put_digits` meets its contract: the halves, the pairs and the digits of a number side by side in a word.
 -- Assumes nothing.
 use Prim.Native.Nat.{_+_}
 use mathlib.Core.Path.{_∙_, ap}
 use native.Mathlib.Omega.{arith}
 use lib.Seq.{sets}
 use borrow.Author.Needs.{needs}
-use Rattle.decimal.specs.Parts.{bytesOf}
-use Rattle.decimal.proofs.Lanes.{hundreds-few, pairs-few, tens-less, turned-few, digits-made}
-use Rattle.decimal.proofs.digits.put_digits.Statement.{statement}
-use Rattle.decimal.proofs.digits.put_digits.Tie as tie
+use Rattle.digits.specs.Parts.{bytesOf}
+use Rattle.digits.proofs.Lanes.{hundreds-few, pairs-few, tens-less, turned-few, digits-made}
+use Rattle.digits.proofs.put_digits.Statement.{statement}
+use Rattle.digits.proofs.put_digits.Tie as tie
 
 cast-fours : tie.Need-cast-fours
 cast-fours c = search needs

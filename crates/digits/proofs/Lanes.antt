@@ -5,7 +5,7 @@ use mathlib.Core.List.{[], _∷_, _++_, reverse}
 use native.Mathlib.Nat.{mod-eq-of-lt, add-mul-mod-self-left}
 use native.Mathlib.Omega.{arith}
 use lib.Bits.{bitAnd, and-block, and-mask}
-use Rattle.decimal.specs.Parts.{fourOf, bytesOf, wordOf}
+use Rattle.digits.specs.Parts.{fourOf, bytesOf, wordOf}
 
 -- a mask of the low j bits of each lane of w bits: the lowest lane by itself
 lane

@@ -1,13 +1,13 @@
--- `decimal::digits::put_bytes` meets its contract: eight stores are one. Assumes nothing.
+-- `digits::put_bytes` meets its contract: eight stores are one. Assumes nothing.
 use Prim.Native.Nat.{suc, _+_}
 use mathlib.Core.Path.{_≡_}
 use native.Mathlib.Nat.{div-div-eq-div-mul}
 use native.Mathlib.Omega.{arith}
 use lib.ListN.{length-set}
 use borrow.Author.Needs.{needs}
-use Rattle.decimal.specs.Parts.{bytesOf}
-use Rattle.decimal.proofs.digits.put_bytes.Statement.{statement}
-use Rattle.decimal.proofs.digits.put_bytes.Tie as tie
+use Rattle.digits.specs.Parts.{bytesOf}
+use Rattle.digits.proofs.put_bytes.Statement.{statement}
+use Rattle.digits.proofs.put_bytes.Tie as tie
 
 cast-out : tie.Need-cast-out
 cast-out c = search needs

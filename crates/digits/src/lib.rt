@@ -4,7 +4,7 @@ ghost use mathlib.Core.Path.{_≡_};
 ghost use Prim.Native.Nat.{_+_, _/_, _%_, _≤_, _<_};
 ghost use lib.ListN.{length};
 ghost use lib.Seq.{sets};
-ghost use Rattle.decimal.specs.Parts.{pairOf, fourOf, bytesOf, wordOf};
+ghost use Rattle.digits.specs.Parts.{pairOf, fourOf, bytesOf, wordOf};
 
 // Writes the two digits of a number below 100. For such a number `* 103 / 1_024` is `/ 10` by a shorter multiplication.
 pub fn put_pair(pair: u32, out: &mut [u8], at: usize)

@@ -1,10 +1,10 @@
--- `decimal::digits::reversed` meets its contract. Assumes nothing.
+-- `digits::reversed` meets its contract. Assumes nothing.
 use native.Mathlib.Nat.{div-div-eq-div-mul}
 use native.Mathlib.Omega.{arith}
 use borrow.Author.Needs.{needs}
-use Rattle.decimal.specs.Parts.{bytesOf, wordOf}
-use Rattle.decimal.proofs.digits.reversed.Statement.{statement}
-use Rattle.decimal.proofs.digits.reversed.Tie as tie
+use Rattle.digits.specs.Parts.{bytesOf, wordOf}
+use Rattle.digits.proofs.reversed.Statement.{statement}
+use Rattle.digits.proofs.reversed.Tie as tie
 
 mul-result : tie.Need-mul-result
 mul-result c = search needs
