@@ -88,14 +88,15 @@ interval-kept h a i l =
     ap (λ v. v .block) (getD-from (entry a) 0 (h .«interval_count») i (interval 0 0 0) l)
     ∙ ap (λ i. getD (a .blocks) i 0) (zero-add i)
 
--- an interval that was found, and the rank
-pub record Reached (h : Header) (a : Arrays) (i r : ℕ) : Type 0 where
+-- the interval of bucket x and its rank, which were found
+pub record Reached (h : Header) (a : Arrays) (x i r : ℕ) : Type 0 where
   pub below : i < h .«interval_count»
   pub block : intervalAt (table h a) i .block ≡ getD (a .blocks) i 0
   pub blockBelow : getD (a .blocks) i 0 < h .«block_count»
-  pub rankBelow : r < h .buckets
+  pub inside : x < h .buckets
+  pub rankMost : r ≤ x
 
-pub reached : (h : Header) (a : Arrays) → Formed h a → (x i r : ℕ) → located (table h a) x ≡ At i r → Reached h a i r
+pub reached : (h : Header) (a : Arrays) → Formed h a → (x i r : ℕ) → located (table h a) x ≡ At i r → Reached h a x i r
 reached h a s x i r e =
     ⊎-elim
     (λ inside.
@@ -104,7 +105,7 @@ reached h a s x i r e =
     let same : m ≡ i = cc in
     let ranked : x - getD (a .adjustments) m 0 ≡ r = cc in
     let here : i < h .«interval_count» = omega arith in
-    record { below = here; block = interval-kept h a i here; blockBelow = s .blocksBelow i here; rankBelow = omega arith })
+    record { below = here; block = interval-kept h a i here; blockBelow = s .blocksBelow i here; inside = inside; rankMost = omega arith })
     (λ past.
     let clash : Outside ≡ At i r = sym (located-outside h a x past) ∙ e in
     let never : _≡_ {A = ℕ} 0 1 = cc in
@@ -139,7 +140,7 @@ module _ (h : Header) (a : Arrays) where
 
   -- the place of a rank in the block of interval i, whose tops are the lent ones
   pub place-at
-      : (x i r : ℕ) → located (table h a) x ≡ At i r → Reached h a i r
+      : (x i r : ℕ) → located (table h a) x ≡ At i r → Reached h a x i r
       → placeAt (table h a) x
       ≡ record {
         refusal = 0;

@@ -1,7 +1,9 @@
 -- `lookup::placed` meets its contract: the search's answer is the model's, and by it the bin and position. Assumes nothing.
-use mathlib.Core.Path.{sym, _∙_}
+use mathlib.Core.Path.{_≡_, sym, _∙_}
 use native.Mathlib.Omega.{arith}
+use lib.ListN.{getD}
 use Rattle.model.specs.Table.{firstBin, Arrays, arrays}
+use Rattle.model.specs.Place.{binOf, positionOf}
 use Rattle.lookup.proofs.Searches.{formed-locatable, Reached, reached, place-at, place-past}
 use borrow.Author.Needs.{needs}
 use Rattle.lookup.proofs.placed.Statement.{statement}
@@ -34,7 +36,8 @@ lists c = arrays (c .args .tops .now) (c .args .ends .now) (c .args .blocks .now
 -- the interval that was found
 found
     : (c : tie.After-known-told)
-    → Reached (entry c .args .h) (lists (entry c)) (c .before .interval .given .0 .0) (c .before .interval .given .0 .1 .0)
+    → Reached (entry c .args .h) (lists (entry c)) (entry c .args .bucket) (c .before .interval .given .0 .0)
+    (c .before .interval .given .0 .1 .0)
 found c = reached _ _ (entry c .pre) _ _ _ (sym (c .before .before .before .locate .ensures _ _ (entry c .pre)) ∙ c .before .interval .given .1)
 
 mul-place-in : tie.Need-mul-place-in
@@ -50,15 +53,26 @@ place-in-requires : tie.Need-place-in-requires
 unfolding firstBin
 place-in-requires c κs =
     let f = found (c .before) in
-    (omega arith, entry (c .before) .pre .topsRise _ (f .blockBelow), omega (arith, f .rankBelow, entry (c .before) .pre .bucketLimit))
+    (omega arith, entry (c .before) .pre .topsRise _ (f .blockBelow), omega (arith, f .inside, f .rankMost, entry (c .before) .pre .bucketLimit))
 
 returns-2 : tie.Need-returns-2
 returns-2 c =
     let k = c .before .before in
-    c .place-in .ensures
+    let start = entry k in
+    let rank = k .before .interval .given .0 .1 .0 in
+    let block = getD (start .args .blocks .now) (k .before .interval .given .0 .0) 0 in
+    let replied
+    : c .place-in .result
+    ≡ record {
+      refusal = 0;
+      bin = binOf (start .args .tops .now) block rank;
+      position = positionOf (start .args .tops .now) block rank;
+    } =
+    c .place-in .ensures in
+    replied
     ∙ sym
-    (place-at (entry k .args .h) _ _ _ _
-    (sym (k .before .before .before .locate .ensures _ _ (entry k .pre)) ∙ k .before .interval .given .1) (found k))
+    (place-at (start .args .h) (lists start) _ _ rank
+    (sym (k .before .before .before .locate .ensures _ _ (start .pre)) ∙ k .before .interval .given .1) (found k))
 
 pub placed-spec : {M : Type 1} → statement M
 placed-spec =
