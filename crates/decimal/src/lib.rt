@@ -1,7 +1,5 @@
 // A number in decimal, with a blank before it. How many digits it has picks the function; each stores them by pairs or eight at a
-// time, and the zero before a single first digit where the blank goes. `field` has numbers right-aligned.
-pub mod field;
-
+// time, and the zero before a single first digit where the blank goes.
 use digits::put_digits;
 use digits::put_pair;
 ghost use mathlib.Core.List.{_∷_};

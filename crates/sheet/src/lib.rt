@@ -1,8 +1,8 @@
 // The rack sheet: document 02, S-4. A line is the two fields of an interval, its first bucket and its last, and the three of its
 // block with a line feed, here called the line's head and its tail.
-use decimal::field::copy_field;
-use decimal::field::put_field;
-use decimal::field::put_pairs;
+use fields::copy_field;
+use fields::put_field;
+use fields::put_pairs;
 use model::reply::SheetReply;
 use model::table::Header;
 use table::before;
@@ -18,7 +18,7 @@ ghost use Rattle.model.specs.Refusal.{first};
 ghost use Rattle.model.specs.Table.{arrays, table, over};
 ghost use Rattle.model.specs.Sheet.{sheet as sheetOf, sheetLength};
 ghost use Rattle.model.specs.Calls.{sheetTests, sheetAnswer, sheetAfter};
-ghost use Rattle.decimal.specs.Parts.{HoldsPairs};
+ghost use Rattle.fields.specs.Parts.{HoldsPairs};
 ghost use Rattle.sheet.specs.Lines.{headOf, tailOf, tailsOf};
 
 // The bytes of a line and of its head.

@@ -11,7 +11,7 @@ use Rattle.model.specs.Table.{arrays}
 use Rattle.model.proofs.Entries.{Put, put-none, put-length}
 use Rattle.model.proofs.Rules.{before-next}
 use Rattle.model.proofs.Sheets.{lentLine}
-use Rattle.decimal.proofs.Pairs.{pairs-held}
+use Rattle.fields.proofs.Copies.{pairs-held}
 use Rattle.sheet.specs.Lines.{headOf, tailOf, spacedTail}
 use Rattle.sheet.proofs.Parts.{line-stored, sheet-stored, room-for, room-before, tail-at, head-length, head-last, head-ready, block-below}
 use Rattle.sheet.proofs.write_many.Statement.{statement}

@@ -8,7 +8,7 @@ ghost use lib.Seq.{sets};
 ghost use Rattle.model.specs.Decimal.{decimal};
 ghost use Rattle.model.specs.Sheet.{blanks, field};
 ghost use Rattle.digits.specs.Parts.{pairOf};
-ghost use Rattle.decimal.specs.Parts.{pairsTo, HoldsPairs};
+ghost use Rattle.fields.specs.Parts.{pairsTo, HoldsPairs};
 
 // What stands before a number.
 const BLANK: u8 = b' ';

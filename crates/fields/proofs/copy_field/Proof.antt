@@ -1,4 +1,4 @@
--- `decimal::field::copy_field` meets its contract. The loop's invariant: the last digits are stored, and `rest` has the others.
+-- `fields::copy_field` meets its contract. The loop's invariant: the last digits are stored, and `rest` has the others.
 -- Assumes nothing.
 use Prim.Native.Nat.{ℕ, _+_, _-_, _^_, _≤_, _<_}
 use mathlib.Core.Path.{_≡_, refl, _∙_, ap}
@@ -9,10 +9,10 @@ use lib.Seq.{sets, length-sets}
 use borrow.Author.Needs.{needs}
 use Rattle.model.specs.Sheet.{blanks, field}
 use Rattle.model.proofs.Decimals.{decimal-one}
 use Rattle.decimal.proofs.Pairs.{decimal-two}
-use Rattle.decimal.proofs.Fields.{over-blanks, Ends, ends-none, ends-room, ends-one, ends-two, ends-within, ends-length, ends-pair, ends-all}
-use Rattle.decimal.proofs.field.copy_field.Statement.{statement}
-use Rattle.decimal.proofs.field.copy_field.Tie as tie
+use Rattle.fields.proofs.Fields.{over-blanks, Ends, ends-none, ends-room, ends-one, ends-two, ends-within, ends-length, ends-pair, ends-all}
+use Rattle.fields.proofs.copy_field.Statement.{statement}
+use Rattle.fields.proofs.copy_field.Tie as tie
 
 abbrev Inv-loop : tie.InvT-loop
 Inv-loop pairs n out₀ at rest₀ end₀ out rest end =

@@ -1,11 +1,11 @@
--- `decimal::field::copy_pair` meets its contract: the two digits stand in the table. Assumes nothing.
+-- `fields::copy_pair` meets its contract: the two digits stand in the table. Assumes nothing.
 use native.Mathlib.Omega.{arith}
 use lib.ListN.{length-set}
 use borrow.Author.Needs.{needs}
-use Rattle.decimal.proofs.Pairs.{pairs-long, pair-at}
+use Rattle.fields.proofs.Copies.{pairs-long, pair-at}
 use Rattle.digits.proofs.Stores.{pair-stored}
-use Rattle.decimal.proofs.field.copy_pair.Statement.{statement}
-use Rattle.decimal.proofs.field.copy_pair.Tie as tie
+use Rattle.fields.proofs.copy_pair.Statement.{statement}
+use Rattle.fields.proofs.copy_pair.Tie as tie
 
 mul-tens : tie.Need-mul-tens
 mul-tens c = search needs

@@ -1,4 +1,4 @@
--- `decimal::field::put_blanks` meets its contract. The loop's invariant: i blanks are stored. Assumes nothing.
+-- `fields::put_blanks` meets its contract. The loop's invariant: i blanks are stored. Assumes nothing.
 use Prim.Native.Nat.{_+_, _-_, _≤_}
 use mathlib.Core.Path.{_≡_, refl, _∙_, ap}
 use mathlib.Core.List.{[], _∷_}
@@ -7,9 +7,9 @@ use native.Mathlib.Omega.{arith}
 use lib.Seq.{sets}
 use Rattle.model.specs.Sheet.{blanks}
 use Rattle.model.proofs.Entries.{Put, put-none, put-length, put-more}
-use Rattle.decimal.proofs.Fields.{blanks-more}
-use Rattle.decimal.proofs.field.put_blanks.Statement.{statement}
-use Rattle.decimal.proofs.field.put_blanks.Tie as tie
+use Rattle.fields.proofs.Fields.{blanks-more}
+use Rattle.fields.proofs.put_blanks.Statement.{statement}
+use Rattle.fields.proofs.put_blanks.Tie as tie
 
 abbrev Inv-loop : tie.InvT-loop
 Inv-loop out₀ at i₀ out i = (i ≤ 10) × Put at (at + i) (blanks i) out₀ out

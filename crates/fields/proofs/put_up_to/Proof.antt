@@ -1,11 +1,11 @@
--- `decimal::field::put_up_to` meets its contract: one digit, or two. Assumes nothing.
+-- `fields::put_up_to` meets its contract: one digit, or two. Assumes nothing.
 use mathlib.Core.Path.{refl}
 use native.Mathlib.Omega.{arith}
 use borrow.Author.Needs.{needs}
 use Rattle.model.proofs.Decimals.{decimal-one}
 use Rattle.decimal.proofs.Pairs.{decimal-two}
-use Rattle.decimal.proofs.field.put_up_to.Statement.{statement}
-use Rattle.decimal.proofs.field.put_up_to.Tie as tie
+use Rattle.fields.proofs.put_up_to.Statement.{statement}
+use Rattle.fields.proofs.put_up_to.Tie as tie
 
 add-out : tie.Need-add-out
 add-out c = search needs

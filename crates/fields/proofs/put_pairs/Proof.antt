@@ -1,4 +1,4 @@
--- `decimal::field::put_pairs` meets its contract. The loop's invariant: the pairs of the numbers below n are stored. Assumes nothing.
+-- `fields::put_pairs` meets its contract. The loop's invariant: the pairs of the numbers below n are stored. Assumes nothing.
 use Prim.Native.Nat.{_-_, _*_, _≤_}
 use mathlib.Core.Path.{_≡_, refl, _∙_, ap}
 use native.Mathlib.Omega.{arith}
@@ -7,9 +7,9 @@ use Rattle.model.specs.Basics.{from, joined}
 use Rattle.model.proofs.Entries.{Put, put-none, put-length}
 use Rattle.model.proofs.Parts.{part-stored}
 use Rattle.digits.specs.Parts.{pairOf}
-use Rattle.decimal.specs.Parts.{pairsTo}
-use Rattle.decimal.proofs.field.put_pairs.Statement.{statement}
-use Rattle.decimal.proofs.field.put_pairs.Tie as tie
+use Rattle.fields.specs.Parts.{pairsTo}
+use Rattle.fields.proofs.put_pairs.Statement.{statement}
+use Rattle.fields.proofs.put_pairs.Tie as tie
 
 abbrev Inv-loop : tie.InvT-loop
 Inv-loop out₀ n₀ out n = (n ≤ 100) × Put 0 (2 * n) (pairsTo n) out₀ out

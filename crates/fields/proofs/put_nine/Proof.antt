@@ -1,4 +1,4 @@
--- `decimal::field::put_nine` meets its contract: a blank, the first digit, and the other eight. Assumes nothing.
+-- `fields::put_nine` meets its contract: a blank, the first digit, and the other eight. Assumes nothing.
 use Prim.Native.Nat.{_+_, _/_, _%_}
 use mathlib.Core.Path.{refl, _∙_, ap}
 use mathlib.Core.List.{[], _∷_, _++_}
@@ -9,9 +9,9 @@ use borrow.Author.Needs.{needs}
 use Rattle.model.specs.Sheet.{field}
 use Rattle.model.proofs.Entries.{put-none, put-more}
 use Rattle.digits.specs.Parts.{fourOf}
-use Rattle.decimal.proofs.Fields.{nine-field}
-use Rattle.decimal.proofs.field.put_nine.Statement.{statement}
-use Rattle.decimal.proofs.field.put_nine.Tie as tie
+use Rattle.fields.proofs.Fields.{nine-field}
+use Rattle.fields.proofs.put_nine.Statement.{statement}
+use Rattle.fields.proofs.put_nine.Tie as tie
 
 slice-write-out : tie.Need-slice-write-out
 slice-write-out c = search needs

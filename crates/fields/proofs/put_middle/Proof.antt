@@ -1,4 +1,4 @@
--- `decimal::field::put_middle` meets its contract: eight digits, then a blank over each zero before the first that counts.
+-- `fields::put_middle` meets its contract: eight digits, then a blank over each zero before the first that counts.
 -- Assumes nothing.
 use mathlib.Core.Path.{_∙_, ap}
 use native.Mathlib.Omega.{arith}
@@ -7,9 +7,9 @@ use lib.Seq.{length-sets}
 use borrow.Author.Needs.{needs}
 use Rattle.model.specs.Sheet.{field}
 use Rattle.model.proofs.Decimals.{decimal-exact}
-use Rattle.decimal.proofs.Fields.{covered, middle-length, middle-field}
-use Rattle.decimal.proofs.field.put_middle.Statement.{statement}
-use Rattle.decimal.proofs.field.put_middle.Tie as tie
+use Rattle.fields.proofs.Fields.{covered, middle-length, middle-field}
+use Rattle.fields.proofs.put_middle.Statement.{statement}
+use Rattle.fields.proofs.put_middle.Tie as tie
 
 slice-write-out : tie.Need-slice-write-out
 slice-write-out c = search needs

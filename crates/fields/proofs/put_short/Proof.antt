@@ -1,9 +1,9 @@
--- `decimal::field::put_short` meets its contract: blanks, and up to four digits over the last of them. Assumes nothing.
+-- `fields::put_short` meets its contract: blanks, and up to four digits over the last of them. Assumes nothing.
 use native.Mathlib.Omega.{arith}
 use borrow.Author.Needs.{needs}
-use Rattle.decimal.proofs.Fields.{over-blanks, pair-before}
-use Rattle.decimal.proofs.field.put_short.Statement.{statement}
-use Rattle.decimal.proofs.field.put_short.Tie as tie
+use Rattle.fields.proofs.Fields.{over-blanks, pair-before}
+use Rattle.fields.proofs.put_short.Statement.{statement}
+use Rattle.fields.proofs.put_short.Tie as tie
 
 put-blanks-requires : tie.Need-put-blanks-requires
 put-blanks-requires c κs = search needs
