@@ -11,10 +11,11 @@ use Rattle.model.specs.Expansion.{parts}
 use Rattle.model.specs.Relocations.{page}
 use Rattle.model.specs.declared.plan.Action.{Action}
 use Rattle.model.specs.declared.plan.Action.the-variants.{Stay, Move, Split}
-use Rattle.relocations.specs.Spans.{placedRow, partRows, paged, Part, PartsMove}
+use Rattle.rows.specs.Spans.{placedRow}
+use Rattle.relocations.specs.Parts.{partRows, paged, Part, PartsMove}
 use Rattle.table.specs.Placing.{placing}
 use Rattle.table.specs.declared.Placing.{Placing}
-use Rattle.relocations.proofs.Spans.{with-none}
+use Rattle.rows.proofs.Spans.{with-none}
 
 -- the parts of an interval of block b up to `end`, where what moves goes to block g
 abbrev pub partsOf : Action → ℕ → Placing → ℕ → ℕ → List Interval

@@ -1,4 +1,3 @@
-pub mod Spans
-pub mod Runs
+pub mod Pages
 pub mod Actions
 pub mod Walking

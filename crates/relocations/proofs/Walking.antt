@@ -29,11 +29,13 @@ use Rattle.model.proofs.Growths.{accepted, some-more}
 use Rattle.model.proofs.Drained.{drainedBlock, plan-stay, plan-move, plan-split}
 use Rattle.model.proofs.Rows.{rows-least, rowsBelow, rows-more, rowsBefore, Cut, end-within, rows-size, part-rows, part-row}
 use Rattle.model.proofs.Pages.{Fives, fives-from, fives-rows, page-past}
-use Rattle.relocations.specs.Spans.{placedRow, partRows, paged, Part, PartsMove, ActionMoves}
+use Rattle.rows.specs.Spans.{placedRow}
+use Rattle.relocations.specs.Parts.{partRows, paged, Part, PartsMove, ActionMoves}
 use Rattle.table.specs.Placing.{placing, placingAt}
 use Rattle.table.specs.declared.Placing.{Placing}
 use Rattle.relocations.proofs.Actions.{partsOf, rows-stay, rows-move, rows-split}
-use Rattle.relocations.proofs.Spans.{page-full, page-fits, paged-behind, five-numbers}
+use Rattle.rows.proofs.Spans.{five-numbers}
+use Rattle.relocations.proofs.Pages.{page-full, page-fits, paged-behind}
 
 -- HOW MANY ROWS
 

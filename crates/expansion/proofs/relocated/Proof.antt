@@ -7,7 +7,7 @@ use Rattle.model.specs.Table.{Shape, Table, sizes}
 use Rattle.model.specs.Refusal.{first}
 use Rattle.model.specs.Calls.{growthTests}
 use Rattle.model.proofs.Wells.{lent-tops}
-use Rattle.relocations.specs.Spans.{movesOf}
+use Rattle.relocations.specs.Parts.{movesOf}
 use Rattle.expansion.proofs.Moves.{moves-same, moves-refused, moves-past, moves-accepted}
 use borrow.Author.Needs.{needs}
 use Rattle.expansion.proofs.relocated.Statement.{statement}

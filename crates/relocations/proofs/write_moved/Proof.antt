@@ -8,7 +8,7 @@ use Rattle.model.specs.Lent.{lent}
 use Rattle.model.proofs.Wells.{lent-tops}
 use Rattle.model.proofs.Growths.{accepted}
 use Rattle.expansion_plan.proofs.Turns.{interval-at, planned}
-use Rattle.relocations.specs.Spans.{Moves}
+use Rattle.relocations.specs.Parts.{Moves}
 use Rattle.relocations.proofs.Walking.{
   Walking,
   walking-starts,

@@ -2,7 +2,8 @@
 use Prim.Native.Nat.{_+_}
 use mathlib.Core.Path.{_∙_}
 use native.Mathlib.Omega.{arith}
-use Rattle.relocations.proofs.Spans.{places-later, room-fits, paged-past, paged-full, paged-left, paged-room}
+use Rattle.rows.proofs.Spans.{places-later}
+use Rattle.relocations.proofs.Pages.{room-fits, paged-past, paged-full, paged-left, paged-room}
 use borrow.Author.Needs.{needs}
 use Rattle.relocations.proofs.write_part.Statement.{statement}
 use Rattle.relocations.proofs.write_part.Tie as tie

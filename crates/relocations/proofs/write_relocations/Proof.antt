@@ -7,7 +7,7 @@ use Rattle.model.specs.Lent.{lent}
 use Rattle.model.proofs.Wells.{lent-tops}
 use Rattle.model.proofs.Rows.{rows-falls}
 use Rattle.model.proofs.Pages.{page-past, page-left, page-room}
-use Rattle.relocations.specs.Spans.{Moves}
+use Rattle.relocations.specs.Parts.{Moves}
 use borrow.Author.Needs.{needs}
 use Rattle.relocations.proofs.write_relocations.Statement.{statement}
 use Rattle.relocations.proofs.write_relocations.Tie as tie

@@ -1,14 +1,14 @@
--- `relocations::write_run` meets its contract: the rows up to bucket x are written, and an even number of them is left. Assumes nothing.
+-- `rows::write_run` meets its contract: the rows up to bucket x are written, and an even number of them is left. Assumes nothing.
 use Prim.Native.Nat.{ℕ, _+_, _-_, _*_, _%_, _^_, _≤_, _<_}
 use mathlib.Core.Path.{_≡_, refl, _∙_, ap}
 use mathlib.Core.Logic.{⊎-elim}
 use native.Mathlib.Omega.{arith}
 use lib.ListN.{length}
 use Rattle.model.specs.Basics.{from}
-use Rattle.relocations.specs.Spans.{runRow, withRows}
-use Rattle.relocations.proofs.Runs.{Running, running-starts, running-same, running-length, running-room, running-more, running-two, running-ends}
-use Rattle.relocations.proofs.write_run.Statement.{statement}
-use Rattle.relocations.proofs.write_run.Tie as tie
+use Rattle.rows.specs.Spans.{runRow, withRows}
+use Rattle.rows.proofs.Runs.{Running, running-starts, running-same, running-length, running-room, running-more, running-two, running-ends}
+use Rattle.rows.proofs.write_run.Statement.{statement}
+use Rattle.rows.proofs.write_run.Tie as tie
 
 abbrev Inv-loop : tie.InvT-loop
 Inv-loop old new bucket count at rows₀ end x₀ here₀ there₀ entry₀ rows x here there entry =

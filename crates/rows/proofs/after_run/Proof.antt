@@ -1,9 +1,9 @@
--- `relocations::after_run` meets its contract: so many ranks more. Assumes nothing.
+-- `rows::after_run` meets its contract: so many ranks more. Assumes nothing.
 use Prim.Native.Nat.{_+_}
 use native.Mathlib.Omega.{arith}
 use borrow.Author.Needs.{needs}
-use Rattle.relocations.proofs.after_run.Statement.{statement}
-use Rattle.relocations.proofs.after_run.Tie as tie
+use Rattle.rows.proofs.after_run.Statement.{statement}
+use Rattle.rows.proofs.after_run.Tie as tie
 
 add-place : tie.Need-add-place
 add-place c = search needs

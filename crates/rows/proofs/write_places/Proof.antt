@@ -1,8 +1,8 @@
--- `relocations::write_places` meets its contract. Assumes nothing.
+-- `rows::write_places` meets its contract. Assumes nothing.
 use borrow.Author.Needs.{needs}
-use Rattle.relocations.specs.Spans.{pairRow}
-use Rattle.relocations.proofs.write_places.Statement.{statement}
-use Rattle.relocations.proofs.write_places.Tie as tie
+use Rattle.rows.specs.Spans.{pairRow}
+use Rattle.rows.proofs.write_places.Statement.{statement}
+use Rattle.rows.proofs.write_places.Tie as tie
 
 low-requires : tie.Need-low-requires
 low-requires c κs = search needs

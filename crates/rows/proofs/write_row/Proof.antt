@@ -1,4 +1,4 @@
--- `relocations::write_row` meets its contract: five stores. Assumes nothing.
+-- `rows::write_row` meets its contract: five stores. Assumes nothing.
 use Prim.Native.Nat.{ℕ, _+_}
 use mathlib.Core.Path.{_≡_}
 use mathlib.Core.List.{List, [], _∷_}
@@ -7,8 +7,8 @@ use native.Mathlib.Omega.{arith}
 use lib.ListN.{set, length-set}
 use lib.Seq.{sets}
 use borrow.Author.Needs.{needs}
-use Rattle.relocations.proofs.write_row.Statement.{statement}
-use Rattle.relocations.proofs.write_row.Tie as tie
+use Rattle.rows.proofs.write_row.Statement.{statement}
+use Rattle.rows.proofs.write_row.Tie as tie
 
 mul-rows : tie.Need-mul-rows
 mul-rows c = search needs

@@ -1,11 +1,11 @@
--- `relocations::write_runs` meets its contract: the rows up to bucket x are written, and the turns are those of x. Assumes nothing.
+-- `rows::write_runs` meets its contract: the rows up to bucket x are written, and the turns are those of x. Assumes nothing.
 use Prim.Native.Nat.{_+_, _*_, _^_, _≤_, _<_}
 use native.Mathlib.Omega.{arith}
 use lib.ListN.{length}
 use borrow.Author.Needs.{needs}
-use Rattle.relocations.proofs.Runs.{run-few, Turning, turning-starts, turning-length, turning-room, turning-fits, turning-more, turning-ends}
-use Rattle.relocations.proofs.write_runs.Statement.{statement}
-use Rattle.relocations.proofs.write_runs.Tie as tie
+use Rattle.rows.proofs.Runs.{run-few, Turning, turning-starts, turning-length, turning-room, turning-fits, turning-more, turning-ends}
+use Rattle.rows.proofs.write_runs.Statement.{statement}
+use Rattle.rows.proofs.write_runs.Tie as tie
 
 abbrev Inv-loop : tie.InvT-loop
 Inv-loop old new bucket end at rows₀ here₀ there₀ x₀ left₀ row₀ rows here there x left row =

@@ -11,12 +11,12 @@ use Rattle.model.specs.Basics.{from}
 use Rattle.model.specs.Limits.{maxBuckets, label}
 use Rattle.model.proofs.Counts.{below-or}
 use Rattle.model.proofs.Tables.{from-ext}
-use Rattle.relocations.specs.Spans.{placedRow, pairRow, runRow, turn, withRows, Slotted, Turned, Runs}
+use Rattle.rows.specs.Spans.{placedRow, pairRow, runRow, turn, withRows, Slotted, Turned, Runs}
 use Rattle.table.specs.Placing.{Places}
 use Rattle.table.specs.declared.Placing.{Placing}
 use Rattle.table.specs.declared.Slot.{Slot}
-use Rattle.relocations.specs.declared.Turn.{Turn}
-use Rattle.relocations.proofs.Spans.{row-slots, five-numbers, Listed, listed-starts, listed-length, listed-run, listed-more, listed-ends}
+use Rattle.rows.specs.declared.Turn.{Turn}
+use Rattle.rows.proofs.Spans.{row-slots, five-numbers, Listed, listed-starts, listed-length, listed-run, listed-more, listed-ends}
 
 -- TURNS
 

@@ -1,12 +1,12 @@
--- `relocations::write_span` meets its contract: the rows up to bucket x are written, and the slots are those of x. Assumes nothing.
+-- `rows::write_span` meets its contract: the rows up to bucket x are written, and the slots are those of x. Assumes nothing.
 use Prim.Native.Nat.{_-_}
 use native.Mathlib.Nat.{lt-of-le-of-lt}
 use native.Mathlib.Omega.{arith}
 use borrow.Author.Count.{falls}
 use borrow.Author.Needs.{needs}
-use Rattle.relocations.proofs.Spans.{slot-placed, slot-next, Spanning, spanning-room, spanning-starts, spanning-length, spanning-more, spanning-ends}
-use Rattle.relocations.proofs.write_span.Statement.{statement}
-use Rattle.relocations.proofs.write_span.Tie as tie
+use Rattle.rows.proofs.Spans.{slot-placed, slot-next, Spanning, spanning-room, spanning-starts, spanning-length, spanning-more, spanning-ends}
+use Rattle.rows.proofs.write_span.Statement.{statement}
+use Rattle.rows.proofs.write_span.Tie as tie
 
 abbrev Inv-loop : tie.InvT-loop
 Inv-loop old new bucket end at rows₀ old-last new-last here₀ there₀ x₀ entry₀ rows here there x entry =

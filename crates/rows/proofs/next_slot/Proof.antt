@@ -1,8 +1,8 @@
--- `relocations::next_slot` meets its contract: one rank more. Assumes nothing.
+-- `rows::next_slot` meets its contract: one rank more. Assumes nothing.
 use native.Mathlib.Omega.{arith}
 use borrow.Author.Needs.{needs}
-use Rattle.relocations.proofs.next_slot.Statement.{statement}
-use Rattle.relocations.proofs.next_slot.Tie as tie
+use Rattle.rows.proofs.next_slot.Statement.{statement}
+use Rattle.rows.proofs.next_slot.Tie as tie
 
 add-t5 : tie.Need-add-t5
 add-t5 c = search needs
