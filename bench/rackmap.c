@@ -324,6 +324,14 @@ static inline bool take_two(const char **at, uint32_t *a, uint32_t *b)
 	return take_number(at, a) && take_text(at, " ") && take_one(at, b);
 }
 
+/* Refuses a readable line, other than a fresh one, while there is no map. Returns whether it did. */
+static inline bool unmapped(void)
+{
+	if (!has_map)
+		refuse(10);
+	return !has_map;
+}
+
 /* Answers one line. Returns the place past it. No readable line is longer than 27 bytes, so
  * one of more than 64 is unreadable without a test of its length. */
 static const char *answer(const char *line)
@@ -331,23 +339,27 @@ static const char *answer(const char *line)
 	const char *at = line;
 	uint32_t a, b;
 
-	if (has_map && take_text(&at, "where ")) {
+	if (take_text(&at, "where ")) {
 		if (take_one(&at, &a)) {
-			where(a);
+			if (!unmapped())
+				where(a);
 			return at;
 		}
-	} else if (has_map && take_text(&at, "at ")) {
+	} else if (take_text(&at, "at ")) {
 		if (take_two(&at, &a, &b)) {
-			find(a, b);
+			if (!unmapped())
+				find(a, b);
 			return at;
 		}
-	} else if (has_map && take_text(&at, "grow ")) {
+	} else if (take_text(&at, "grow ")) {
 		if (take_two(&at, &a, &b)) {
-			grow(a, b);
+			if (!unmapped())
+				grow(a, b);
 			return at;
 		}
-	} else if (has_map && take_text(&at, "moves\n")) {
-		moves();
+	} else if (take_text(&at, "moves\n")) {
+		if (!unmapped())
+			moves();
 		return at;
 	} else if (take_text(&at, "fresh ")) {
 		if (take_two(&at, &a, &b)) {
@@ -355,7 +367,7 @@ static const char *answer(const char *line)
 			return at;
 		}
 	}
-	refuse(has_map ? 23 : 10);
+	refuse(23);
 	return (const char *)rawmemchr(line, '\n') + 1;
 }
 

@@ -44,7 +44,8 @@ UNREADABLE = [
 
 def mixed(rng, count):
     """Small maps under all commands, with every refusal that a small map can give."""
-    lines = [b"where 0", b"at 0 0", b"grow 5 2", b"moves", b"x", b"fresh 0 0", b"fresh 1 2"]
+    lines = [b"where 0", b"at 0 0", b"grow 5 2", b"moves", *UNREADABLE]  # before there is a map
+    lines += [b"fresh 0 0", b"fresh 1 2", *UNREADABLE, b"where 0"]
     buckets = bins = 0
     for _ in range(count):
         kind = rng.random()

@@ -1,4 +1,4 @@
--- The claims that the checker computes: document 01's starred figures, its listing, and the sheet of its example. Assumes nothing.
+-- The claims that the checker computes: document 01's starred figures, its listing, mistyped lines, and the sheet of its example. Assumes nothing.
 use mathlib.Core.Path.{refl}
 use Rattle.model.specs.Basics.{if_then_else_, _and_, _or_, bit, sum, count, all, from, joined, before}
 use Rattle.model.specs.Table.{bins, shape, firstBin, blockBins, table, header, over, written}
@@ -21,12 +21,13 @@ use Rattle.model.specs.Calls.{roomReply, saveTests, saveRefusal, saveRep
 use Rattle.model.specs.Decimal.{digitsOnly, valueFrom, value, digits, decimal}
 use Rattle.model.specs.Sheet.{field, sheetLine, intervalNumbers, sheet, sheetLength}
 use Rattle.model.specs.Console.{text, inFront, linesOf, wordsOf, same, isNumber, command, read}
-use Rattle.model.specs.Console.{line, noMap, current, isFresh, isUnreadable, commandTests, commandRefusal, movesOf, moveText}
+use Rattle.model.specs.Console.{line, noMap, current, isFresh, isUnreadable, lineTests, commandTests, commandRefusal, movesOf, moveText}
 use Rattle.model.specs.Console.{accepted, acceptedAnswer, commandAnswer, answerText, after, printed, printedAll, output}
 use Rattle.model.specs.History.{started, replyOf, next, added, played, handedOn}
 use Rattle.model.specs.Figures.{blank, grown, answered, computed, starred}
 use Rattle.model.specs.Claims.{Figures, Listing}
 use Rattle.model.specs.SheetClaims.{example, SheetExample, SheetEdges}
+use Rattle.model.specs.ConsoleClaims.{Mistyped}
 
 pub figures : Figures
 unfolding if_then_else_ _and_ _or_ bit sum count all from joined before bins shape firstBin blockBins table header
@@ -40,12 +41,13 @@ unfolding if_then_else_ _and_ _or_ bit sum count all from joined before bins sha
     relocationsRefusal relocationsReply relocationsRows placeAnswer findAnswer binSizeAnswer placeTests findTests
     binSizeTests placeReply findReply binSizeReply roomRefusal roomReply saveTests saveRefusal saveReply saveBytes
     loadTests loadRefusal loadReply loadArrays text inFront linesOf wordsOf same digitsOnly valueFrom value isNumber
-    command read digits decimal line noMap current isFresh isUnreadable commandTests commandRefusal movesOf moveText accepted
+    command read digits decimal line noMap current isFresh isUnreadable lineTests commandTests commandRefusal movesOf moveText accepted
     acceptedAnswer commandAnswer answerText after printed printedAll output started replyOf next added played handedOn
     blank grown answered computed starred
 figures = refl
 
-pub listing : Listing
+-- the outputs: of the listing, and of mistyped lines
+pub listing : Listing × Mistyped
 unfolding if_then_else_ _and_ _or_ bit sum count all from joined before bins shape firstBin blockBins table header
     over written intervalOf indexOf blockOf rank bin position held others size binSize intervalAt located placeOf placeAt
     blockOfBin rankAt includes holder foundOf heldAt foundAt due dueOfBins dueOfBlock first searched outside rises
@@ -57,10 +59,10 @@ unfolding if_then_else_ _and_ _or_ bit sum count all from joined before bins sha
     relocationsRefusal relocationsReply relocationsRows placeAnswer findAnswer binSizeAnswer placeTests findTests
     binSizeTests placeReply findReply binSizeReply roomRefusal roomReply saveTests saveRefusal saveReply saveBytes
     loadTests loadRefusal loadReply loadArrays text inFront linesOf wordsOf same digitsOnly valueFrom value isNumber
-    command read digits decimal line noMap current isFresh isUnreadable commandTests commandRefusal movesOf moveText accepted
+    command read digits decimal line noMap current isFresh isUnreadable lineTests commandTests commandRefusal movesOf moveText accepted
     acceptedAnswer commandAnswer answerText after printed printedAll output started replyOf next added played handedOn
     blank grown answered computed starred
-listing = refl
+listing = (refl, refl)
 
 pub sheet-example : SheetExample
 unfolding if_then_else_ _and_ _or_ bit sum count all from joined before bins shape firstBin blockBins table header
@@ -74,7 +76,7 @@ unfolding if_then_else_ _and_ _or_ bit sum count all from joined before bins sha
     relocationsRefusal relocationsReply relocationsRows placeAnswer findAnswer binSizeAnswer placeTests findTests
     binSizeTests placeReply findReply binSizeReply roomRefusal roomReply saveTests saveRefusal saveReply saveBytes
     loadTests loadRefusal loadReply loadArrays text inFront linesOf wordsOf same digitsOnly valueFrom value isNumber
-    command read digits decimal line noMap current isFresh isUnreadable commandTests commandRefusal movesOf moveText accepted
+    command read digits decimal line noMap current isFresh isUnreadable lineTests commandTests commandRefusal movesOf moveText accepted
     acceptedAnswer commandAnswer answerText after printed printedAll output started replyOf next added played handedOn
     blank grown answered computed starred
     field sheetLine intervalNumbers sheet example
@@ -92,7 +94,7 @@ unfolding if_then_else_ _and_ _or_ bit sum count all from joined before bins sha
     relocationsRefusal relocationsReply relocationsRows placeAnswer findAnswer binSizeAnswer placeTests findTests
     binSizeTests placeReply findReply binSizeReply roomRefusal roomReply saveTests saveRefusal saveReply saveBytes
     loadTests loadRefusal loadReply loadArrays text inFront linesOf wordsOf same digitsOnly valueFrom value isNumber
-    command read digits decimal line noMap current isFresh isUnreadable commandTests commandRefusal movesOf moveText accepted
+    command read digits decimal line noMap current isFresh isUnreadable lineTests commandTests commandRefusal movesOf moveText accepted
     acceptedAnswer commandAnswer answerText after printed printedAll output started replyOf next added played handedOn
     blank grown answered computed starred
     field sheetLine intervalNumbers sheet example sheetLength sheetTests sheetRefusal

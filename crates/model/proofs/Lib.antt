@@ -40,3 +40,4 @@ pub mod Steps
 pub mod Entries
 pub mod Parts
 pub mod Sheets
+pub mod Lines

@@ -6,7 +6,7 @@ use mathlib.Core.Bool.{Bool, true, false, not, false≢true}
 use mathlib.Core.List.{List, [], _∷_, _++_}
 use native.Mathlib.Omega.{arith}
 use borrow.Author.Tests.{ltb-false, le-ltb, eqb-false, ne-eqb}
-use Rattle.model.specs.Basics.{if_then_else_, _or_}
+use Rattle.model.specs.Basics.{if_then_else_, _and_, _or_}
 use Rattle.model.specs.Refusal.{Test, first, outside}
 use Rattle.model.specs.Calls.{answer}
 use Rattle.model.proofs.Counts.{bit-cases}
@@ -31,6 +31,12 @@ or-split a b h = (or-left a b h, or-right a b h)
 pub or-both : (a b : Bool) → a ≡ false → b ≡ false → a or b ≡ false
 unfolding _or_
 or-both a b h k = rw (h, k)
+
+-- `and` is false where the second is
+pub and-false : (b : Bool) → b and false ≡ false
+unfolding _and_
+and-false true = refl
+and-false false = refl
 
 -- not false, from true: the other way of `not-false`
 pub not-clear : (b : Bool) → b ≡ true → not b ≡ false

@@ -110,6 +110,13 @@ isUnreadable (At y p) = false
 isUnreadable Moves = false
 isUnreadable Unreadable = true
 
+-- the tests of every line. 23: it is unreadable. 10: there is no map, and it is not a readable `fresh`
+unfoldable pub lineTests : Session → Command → List Test
+lineTests s c =
+    (23, isUnreadable c)
+    ∷ (10, noMap s and not (isFresh c))
+    ∷ []
+
 -- the tests of a command on the table t
 unfoldable pub commandTests : Table → Command → List Test
 commandTests t (Fresh b n) = freshTests (sizes b n) maxCapacity
@@ -119,9 +126,9 @@ commandTests t (At y p) = findTests t y p
 commandTests t Moves = []
 commandTests t Unreadable = []
 
+-- the first of them that holds
 unfoldable pub commandRefusal : Session → Command → ℕ
-commandRefusal s c =
-    first ((10, noMap s and not (isFresh c)) ∷ (23, isUnreadable c) ∷ commandTests (current s) c)
+commandRefusal s c = first (lineTests s c ++ commandTests (current s) c)
 
 -- the rows of the latest growth, and the `move` lines of rows
 unfoldable pub movesOf : Session → List (List ℕ)

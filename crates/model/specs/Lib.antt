@@ -24,3 +24,4 @@ pub mod Claims
 pub mod TableClaims
 pub mod ExpansionClaims
 pub mod SheetClaims
+pub mod ConsoleClaims

@@ -3,6 +3,7 @@ ghost use Rattle.model.specs.Claims.{Claims};
 ghost use Rattle.model.specs.TableClaims.{TableClaims};
 ghost use Rattle.model.specs.ExpansionClaims.{ExpansionClaims};
 ghost use Rattle.model.specs.SheetClaims.{SheetClaims};
+ghost use Rattle.model.specs.ConsoleClaims.{ConsoleClaims};
 
 pub mod answer;
 pub mod command;
@@ -30,4 +31,9 @@ pub fn expansion_claims()
 // What is proved of the rack sheet (specs/SheetClaims.antt).
 pub fn sheet_claims()
     ensures { λ _. ⌜ SheetClaims ⌝ }
+{}
+
+// What is proved of a session's lines (specs/ConsoleClaims.antt).
+pub fn console_claims()
+    ensures { λ _. ⌜ ConsoleClaims ⌝ }
 {}

@@ -1,3 +1,4 @@
+pub mod Tags
 pub mod Steps
 pub mod Rights
 pub mod Spoken

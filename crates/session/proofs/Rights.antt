@@ -77,10 +77,10 @@ module _ (m : Maps) (r : Right m) where
     mapped = has-map m (Grow b n) refl e
 
     tests : (first (growthTests (mapOf m) (sizes b n)) ≡ 0) × (length (expanded (mapOf m) (sizes b n) .intervals) ≤ maxIntervals)
-    unfolding isUnreadable commandTests first if_then_else_ intervalsFull
+    unfolding isUnreadable commandTests intervalsFull
     tests =
         let (growth, rest) = first-both (growthTests (mapOf m) (sizes b n)) _ (growth-numbered (mapOf m) (sizes b n))
-        (sym (map-refusal m (Grow b n) mapped) ∙ e) in
+        (sym (map-refusal m (Grow b n) refl mapped) ∙ e) in
         let (full, none) = first-number 8 (intervalsFull (mapOf m) (sizes b n)) [] (omega arith) rest in
         (growth, ltb-false _ _ full)
 

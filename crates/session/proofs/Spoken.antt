@@ -1,7 +1,6 @@
 -- What the program's session holds and prints is document 01's session. Assumes nothing.
 use Prim.Native.Nat.{ℕ}
 use mathlib.Core.Path.{_≡_, refl, sym, _∙_, ap, ap₂}
-use mathlib.Core.Bool.{true, not, true≢false}
 use mathlib.Core.List.{List, _++_, append-nil}
 use native.Mathlib.Decide.{ℕ-discrete}
 use native.Mathlib.Omega.{arith}
@@ -10,17 +9,17 @@ use Rattle.model.specs.Limits.{maxCapacity}
 use Rattle.model.specs.Initial.{initial}
 use Rattle.model.specs.Expansion.{expanded}
 use Rattle.model.specs.Table.{sizes}
-use Rattle.model.specs.Console.{Session, fresh, noMap, isFresh, isUnreadable, commandRefusal, read, movesOf, moveText}
+use Rattle.model.specs.Console.{Session, fresh, isFresh, commandRefusal, read, movesOf, moveText}
 use Rattle.model.specs.Console.{accepted, acceptedAnswer, commandAnswer, answerText, after, printed}
 use Rattle.model.specs.declared.answer.Answer.{Answer}
 use Rattle.model.specs.declared.answer.Answer.the-variants as says
 use Rattle.model.specs.declared.command.Command.{Command}
 use Rattle.model.specs.declared.command.Command.the-variants.{Fresh, Grow, Where, At, Moves, Unreadable}
-use Rattle.model.proofs.Refusals.{first-clear, accepted as answer-accepted, refused as answer-refused}
+use Rattle.model.proofs.Refusals.{accepted as answer-accepted, refused as answer-refused}
 use Rattle.model.proofs.Tables.{table-written}
 use Rattle.session.specs.Maps.{Maps, mapOf, beforeOf, sessionAt, session, performed, next, shown, isList, listed}
 use Rattle.session.specs.Claims.{SessionKept, SessionSpoken}
-use Rattle.session.proofs.Steps.{map-current, has-map}
+use Rattle.session.proofs.Steps.{unreadable-refusal, map-current, has-map}
 
 -- an accepted step leaves document 01's session
 performed-kept
@@ -83,7 +82,4 @@ session-spoken s l =
 
 -- a line that says nothing is refused
 pub unreadable-refused : (s : Session) → commandRefusal s Unreadable ≡ 0 → ⊥
-unfolding commandRefusal isUnreadable
-unreadable-refused s e =
-    let (none, rest) = first-clear (10, noMap s and not (isFresh Unreadable)) _ (λ z. omega arith) e in
-    true≢false (first-clear (23, true) _ (λ z. omega arith) rest .0)
+unreadable-refused s e = omega (arith, e, unreadable-refusal s)

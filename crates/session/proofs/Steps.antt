@@ -2,7 +2,7 @@
 use Prim.Native.Nat.{ℕ}
 use mathlib.Core.Path.{_≡_, refl, sym, _∙_, ap, subst}
 use mathlib.Core.Bool.{Bool, true, false, not, true≢false}
-use mathlib.Core.List.{_∷_}
+use mathlib.Core.List.{[], _∷_}
 use mathlib.Core.Logic.{⊎-elim}
 use native.Mathlib.Decide.{ℕ-discrete}
 use native.Mathlib.Omega.{arith}
@@ -16,18 +16,20 @@ use Rattle.model.specs.Search.{placeAt}
 use Rattle.model.specs.Initial.{initial}
 use Rattle.model.specs.Expansion.{expanded, moved}
 use Rattle.model.specs.Calls.{answer, freshTests, placeTests, findTests, tableReply, arraysAfter, findAnswer}
-use Rattle.model.specs.Console.{noMap, current, isFresh, isUnreadable, commandTests, commandRefusal, acceptedAnswer, commandAnswer}
+use Rattle.model.specs.Console.{Session, noMap, current, isFresh, isUnreadable, lineTests, commandTests, commandRefusal}
+use Rattle.model.specs.Console.{acceptedAnswer, commandAnswer}
 use Rattle.model.specs.declared.command.Command.{Command}
 use Rattle.model.specs.declared.command.Command.the-variants.{Fresh, Grow, Where, At, Moves, Unreadable}
 use Rattle.model.specs.declared.reply.TableReply.{TableReply}
 use Rattle.model.specs.declared.reply.PlaceReply.{PlaceReply}
 use Rattle.model.specs.declared.reply.FindReply.{FindReply}
 use Rattle.model.proofs.Counts.{bit-cases}
-use Rattle.model.proofs.Refusals.{accepted as answer-accepted, refused as answer-refused}
+use Rattle.model.proofs.Flags.{and-true}
+use Rattle.model.proofs.Refusals.{and-false, Numbered, first-number, first-found, first-both, accepted as answer-accepted, refused as answer-refused}
 use Rattle.model.proofs.Soundness.{arrays-written}
 use Rattle.model.proofs.Searches.{first-searched, found-refusal}
 use Rattle.expansion.specs.Replies.{growRefusal, GrowReply}
-use Rattle.session.specs.Maps.{Maps, maps, isEmpty, mapOf, sessionAt, session, performed, next, isGrow, flips, Stepped}
+use Rattle.session.specs.Maps.{Maps, maps, isEmpty, mapOf, sessionAt, session, performed, next, isGrow, flips, Stepped, HasMap, Right}
 use Rattle.session.specs.declared.state.Stage.{Stage}
 use Rattle.session.specs.declared.state.Stage.the-variants as stage
 use Rattle.model.specs.declared.answer.Answer.{Answer}
@@ -49,11 +51,6 @@ map-current stage.Empty t u e = absurd (true≢false e)
 map-current stage.Fresh t u e = refl
 map-current stage.Grown t u e = refl
 
-and-false : (b : Bool) → b and false ≡ false
-unfolding _and_
-and-false true = refl
-and-false false = refl
-
 -- a reply whose refusal number is 0 where it is accepted
 refusal-number : {A : Type 0} (r : ℕ) (f : A → ℕ) (a b : A) → (r ≡ 0 → f a ≡ r) → f b ≡ r → f (answer r a b) ≡ r
 refusal-number r f a b h k =
@@ -64,29 +61,58 @@ refusal-number r f a b h k =
 
 -- REFUSALS
 
+-- the tests of every line have numbers
+numbered : (s : Session) (c : Command) → Numbered (lineTests s c)
+unfolding lineTests
+numbered s c = omega arith
+
+-- a line that says nothing
+pub unreadable-refusal : (s : Session) → commandRefusal s Unreadable ≡ 23
+unfolding commandRefusal lineTests isUnreadable first if_then_else_
+unreadable-refusal s = refl
+
 module _ (m : Maps) where
-  -- 10 comes first
-  pub empty-refusal : (c : Command) → isFresh c ≡ false → isEmpty (m .state .stage) ≡ true → commandRefusal (session m) c ≡ 10
-  unfolding commandRefusal session first if_then_else_ _and_
-  empty-refusal c f e = rw (no-map (m .state .stage) _ _, e, f)
+  -- the tests of every line, where u says that it is unreadable, and n that there is no map and it is not `fresh`
+  pub line-tests
+      : (c : Command) (u n : Bool) → u ≡ isUnreadable c → n ≡ (isEmpty (m .state .stage) and not (isFresh c))
+      → first ((23, u) ∷ (10, n) ∷ []) ≡ first (lineTests (session m) c)
+  unfolding lineTests session
+  line-tests c u n p q = rw (p, q, no-map (m .state .stage) _ _)
 
-  -- so an accepted command other than `fresh` has a map
+  -- a line that they refuse; one that is accepted, they let pass
+  pub line-refusal : (c : Command) (r : ℕ) → r ≡ first (lineTests (session m) c) → (r ≡ 0 → ⊥) → commandRefusal (session m) c ≡ r
+  unfolding commandRefusal
+  line-refusal c r e n = first-found (lineTests (session m) c) _ (λ z. n (e ∙ z)) ∙ sym e
+
+  line-passed : (c : Command) → commandRefusal (session m) c ≡ 0 → first (lineTests (session m) c) ≡ 0
+  unfolding commandRefusal
+  line-passed c e = first-both (lineTests (session m) c) _ (numbered (session m) c) e .0
+
+  -- one that they let pass has a map, or is `fresh`
+  passed-map : (c : Command) → isFresh c ≡ false → first (lineTests (session m) c) ≡ 0 → isEmpty (m .state .stage) ≡ false
+  passed-map c f e =
+      let (readable, rest) = first-number 23 (isUnreadable c) _ (omega arith) (line-tests c _ _ refl refl ∙ e) in
+      let (mapped, none) = first-number 10 (isEmpty (m .state .stage) and not (isFresh c)) [] (omega arith) rest in
+      sym (and-true (isEmpty (m .state .stage)) (not (isFresh c)) (ap not f)) ∙ mapped
+
+  -- and that map is sound, if the invariant holds
+  pub passed-sound
+      : {c : Command} (d : Command) {r : ℕ} → c ≡ d → isFresh d ≡ false → r ≡ first (lineTests (session m) c) → r ≡ 0 → Right m
+      → HasMap (m .state) (m .this)
+  passed-sound {c} d e f t z w = let map = passed-map c (ap isFresh e ∙ f) (sym t ∙ z) in (map, w .sound map)
+
   pub has-map : (c : Command) → isFresh c ≡ false → commandRefusal (session m) c ≡ 0 → isEmpty (m .state .stage) ≡ false
-  has-map c f e =
-      ⊎-elim
-      (λ y. absurd (let ten : 10 ≡ 0 = sym (empty-refusal c f (y .0)) ∙ e in omega arith))
-      (λ y. y .0)
-      (bit-cases (isEmpty (m .state .stage)))
+  has-map c f e = passed-map c f (line-passed c e)
 
-  -- then 23, and the tests of the command on the map
+  -- with a map the tests of a command are left
   pub map-refusal
-      : (c : Command) → isEmpty (m .state .stage) ≡ false
-      → commandRefusal (session m) c ≡ first ((23, isUnreadable c) ∷ commandTests (mapOf m) c)
-  unfolding commandRefusal session first if_then_else_ _and_
-  map-refusal c e = rw (no-map (m .state .stage) _ _, e, map-current (m .state .stage) _ _ e)
+      : (c : Command) → isUnreadable c ≡ false → isEmpty (m .state .stage) ≡ false
+      → commandRefusal (session m) c ≡ first (commandTests (mapOf m) c)
+  unfolding commandRefusal lineTests session first if_then_else_ _and_
+  map-refusal c u e = rw (u, no-map (m .state .stage) _ _, e, map-current (m .state .stage) _ _ e)
 
   pub fresh-refusal : (b n : ℕ) → commandRefusal (session m) (Fresh b n) ≡ first (freshTests (sizes b n) maxCapacity)
-  unfolding commandRefusal isFresh isUnreadable commandTests first if_then_else_
+  unfolding commandRefusal lineTests isFresh isUnreadable commandTests first if_then_else_
   fresh-refusal b n = rw (and-false (noMap (session m)))
 
   -- STEPS
@@ -119,24 +145,22 @@ module _ (m : Maps) where
   pub step-of : {c d : Command} {z : Step} {a b : Arrays} → c ≡ d → Stepped m d z a b → Stepped m c z a b
   step-of {z = z} {a = a} {b = b} e s = subst (λ c. Stepped m c z a b) (sym e) s
 
-  -- one before there is a map
-  pub empty-step
-      : (c : Command) (z : Step) → isFresh c ≡ false → z ≡ record { state = m .state; flip = false; answer = says.Refused 10 }
-      → isEmpty (m .state .stage) ≡ true → Stepped m c z (m .this) (m .other)
-  empty-step c z f w e = refused-step c 10 z w (empty-refusal c f e) (λ z. omega arith)
+  -- one that the tests of every line refuse
+  pub line-step
+      : (c : Command) (r : ℕ) (z : Step) → z ≡ record { state = m .state; flip = false; answer = says.Refused r }
+      → r ≡ first (lineTests (session m) c) → (r ≡ 0 → ⊥) → Stepped m c z (m .this) (m .other)
+  line-step c r z w e n = refused-step c r z w (line-refusal c r e n) n
 
   -- `moves`, and a line that says nothing
   pub moves-step
       : (z : Step) → z ≡ record { state = m .state; flip = false; answer = says.Moves }
       → isEmpty (m .state .stage) ≡ false → Stepped m Moves z (m .this) (m .other)
-  unfolding isUnreadable commandTests first if_then_else_ isGrow performed acceptedAnswer
-  moves-step z w e = told-step Moves says.Moves z w (map-refusal Moves e) refl refl refl
+  unfolding isUnreadable commandTests first isGrow performed acceptedAnswer
+  moves-step z w e = told-step Moves says.Moves z w (map-refusal Moves refl e) refl refl refl
 
   pub unreadable-step
-      : (z : Step) → z ≡ record { state = m .state; flip = false; answer = says.Refused 23 }
-      → isEmpty (m .state .stage) ≡ false → Stepped m Unreadable z (m .this) (m .other)
-  unfolding isUnreadable first if_then_else_
-  unreadable-step z w e = refused-step Unreadable 23 z w (map-refusal Unreadable e) (λ z. omega arith)
+      : (z : Step) → z ≡ record { state = m .state; flip = false; answer = says.Refused 23 } → Stepped m Unreadable z (m .this) (m .other)
+  unreadable-step z w = refused-step Unreadable 23 z w (unreadable-refusal (session m)) (λ z. omega arith)
 
   -- `fresh`, accepted
   pub fresh-step
@@ -170,8 +194,8 @@ module _ (m : Maps) where
     -- `grow`
     module _ (b n : ℕ) (z : TableReply) (left : Arrays) (g : GrowReply (mapOf m) (sizes b n) (m .other) left z) where
       number : commandRefusal (session m) (Grow b n) ≡ growRefusal (mapOf m) (sizes b n)
-      unfolding isUnreadable commandTests first if_then_else_
-      number = map-refusal (Grow b n) e
+      unfolding isUnreadable commandTests
+      number = map-refusal (Grow b n) refl e
 
       grow-refusal : commandRefusal (session m) (Grow b n) ≡ z .refusal
       unfolding tableReply
@@ -216,9 +240,9 @@ module _ (m : Maps) where
     -- `where`
     module _ (x : ℕ) (z : PlaceReply) (p : z ≡ placeAt (mapOf m) x) where
       pub place-refusal : commandRefusal (session m) (Where x) ≡ z .refusal
-      unfolding isUnreadable commandTests placeTests first if_then_else_
+      unfolding isUnreadable commandTests placeTests
       place-refusal =
-          map-refusal (Where x) e
+          map-refusal (Where x) refl e
           ∙ first-searched (placeAt (mapOf m) x .refusal)
           ∙ sym (ap (λ (y : PlaceReply). y .refusal) p)
 
@@ -229,8 +253,8 @@ module _ (m : Maps) where
     -- `at`
     module _ (y k : ℕ) (z : FindReply) (p : z ≡ findAnswer (first (findTests (mapOf m) y k)) (mapOf m) y k) where
       find-number : commandRefusal (session m) (At y k) ≡ first (findTests (mapOf m) y k)
-      unfolding isUnreadable commandTests first if_then_else_
-      find-number = map-refusal (At y k) e
+      unfolding isUnreadable commandTests
+      find-number = map-refusal (At y k) refl e
 
       pub find-refusal : commandRefusal (session m) (At y k) ≡ z .refusal
       unfolding findAnswer

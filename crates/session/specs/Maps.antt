@@ -13,7 +13,7 @@ use Rattle.model.specs.Sound.{Sound}
 use Rattle.model.specs.Initial.{initial}
 use Rattle.model.specs.Expansion.{expanded}
 use Rattle.model.specs.Calls.{answer, growthTests}
-use Rattle.model.specs.Console.{Session, empty, fresh, grown, commandRefusal, commandAnswer, answerText, movesOf, moveText}
+use Rattle.model.specs.Console.{Session, empty, fresh, grown, lineTests, commandRefusal, commandAnswer, answerText, movesOf, moveText}
 use Rattle.model.specs.declared.answer.Answer.{Answer}
 use Rattle.model.specs.declared.answer.Answer.the-variants as says
 use Rattle.model.specs.declared.command.Command.{Command}
@@ -114,21 +114,26 @@ pub record Stepped (m : Maps) (c : Command) (r : Step) (a b : Arrays) : Type 0 w
   pub flip : r .flip ≡ flips (session m) c
   pub maps : (if r .flip then maps (r .state) b a else maps (r .state) a b) ≡ next m c
 
--- a step that leaves the other table alone, whatever it holds; one that reads the map; one that does not even read it
+-- r is the refusal of the command c by the tests of every line, whatever the tables hold
+abbrev pub LineTested : State → Command → ℕ → Type 0
+LineTested st c r = (this other : Arrays) → r ≡ first (lineTests (session (maps st this other)) c)
+
+-- a step that leaves the other table alone, whatever it holds; one that reads the map
 abbrev pub Renews : State → Arrays → Command → Step → Arrays → Type 0
 Renews st this c r left = (other : Arrays) → Stepped (maps st this other) c r left other
 
 abbrev pub Reads : State → Arrays → Command → Step → Type 0
 Reads st this c r = Renews st this c r this
 
-abbrev pub Answers : State → Command → Step → Type 0
-Answers st c r = (this : Arrays) → Reads st this c r
-
 -- THE INVARIANT
 
 -- a map, if there is one, is sound
 abbrev pub Mapped : State → Arrays → Type 0
 Mapped st this = isEmpty (st .stage) ≡ false → Sound (st .current) this
+
+-- there is one, and it is
+abbrev pub HasMap : State → Arrays → Type 0
+HasMap st this = (isEmpty (st .stage) ≡ false) × Sound (st .current) this
 
 -- the sizes of the map
 unfoldable pub sizesOf : State → Shape

@@ -7,12 +7,14 @@ use model::command::Command;
 use model::limits::MAX_CAPACITY;
 use model::table::Header;
 ghost use mathlib.Core.Path.{_≡_};
-ghost use mathlib.Core.Bool.{false};
+ghost use mathlib.Core.Bool.{false, not};
+ghost use Rattle.model.specs.Basics.{_and_};
 ghost use Rattle.model.specs.Lent.{given, left, arraysNow};
 ghost use Rattle.model.specs.Refusal.{roomShort};
+ghost use Rattle.model.specs.Console.{isFresh, isUnreadable};
 ghost use Rattle.model.specs.declared.command.Command.the-variants as line;
 ghost use Rattle.model.specs.declared.answer.Answer.the-variants as says;
-ghost use Rattle.session.specs.Maps.{maps, isEmpty as emptyAt, Mapped, Renews, Reads, Answers, Stepped, Right};
+ghost use Rattle.session.specs.Maps.{maps, isEmpty as emptyAt, HasMap, LineTested, Renews, Reads, Stepped, Right};
 
 // Whether there is no map.
 pub fn is_empty(state: State) -> bool
@@ -24,6 +26,44 @@ pub fn is_empty(state: State) -> bool
         Stage::Fresh => false,
         Stage::Grown => false,
     }
+}
+
+// Whether a line says nothing.
+fn is_unreadable(command: Command) -> bool
+    ensures { λ r. ⌜ r ≡ isUnreadable command ⌝ }
+{
+    if let Command::Unreadable = command {
+        true
+    } else {
+        false
+    }
+}
+
+// Whether there is no map and a command other than `fresh`.
+fn is_unmapped(state: State, command: Command) -> bool
+    ensures { λ r. ⌜ r ≡ (emptyAt (state .stage) and not (isFresh command)) ⌝ }
+{
+    let empty = is_empty(state);
+    if let Command::Fresh { .. } = command {
+        false
+    } else {
+        empty
+    }
+}
+
+// The tests of every line, in their order. 0: neither refuses it.
+fn line_refusal(state: State, command: Command) -> u32
+    ensures { λ r. ⌜ LineTested state command r ⌝ }
+{
+    let unreadable = is_unreadable(command);
+    let unmapped = is_unmapped(state, command);
+    if unreadable {
+        return 23;
+    }
+    if unmapped {
+        return 10;
+    }
+    0
 }
 
 // A refused command: nothing changes.
@@ -102,7 +142,7 @@ fn grow(
     new_blocks: &mut [u32],
     new_adjustments: &mut [u32],
 ) -> Step
-    requires { ⌜ Mapped state (arraysNow tops ends blocks adjustments) ⌝ }
+    requires { ⌜ HasMap state (arraysNow tops ends blocks adjustments) ⌝ }
     requires { ⌜ roomShort (arraysNow «new_tops» «new_ends» «new_blocks» «new_adjustments») ≡ false ⌝ }
     ensures { λ r.
         ⌜
@@ -110,9 +150,6 @@ fn grow(
         (line.Grow buckets bins) r (given tops ends blocks adjustments) (left «new_tops» «new_ends» «new_blocks» «new_adjustments»)
         ⌝ }
 {
-    if is_empty(state) {
-        return refused(state, 10);
-    }
     let header = state.current;
     let grown = expansion::grown(
         header,
@@ -156,12 +193,9 @@ fn place(
     adjustments: &[u32],
     bucket: u32,
 ) -> Step
-    requires { ⌜ Mapped state (arraysNow tops ends blocks adjustments) ⌝ }
+    requires { ⌜ HasMap state (arraysNow tops ends blocks adjustments) ⌝ }
     ensures { λ r. ⌜ Reads state (given tops ends blocks adjustments) (line.Where bucket) r ⌝ }
 {
-    if is_empty(state) {
-        return refused(state, 10);
-    }
     let header = state.current;
     let reply = lookup::placed(header, tops, ends, blocks, adjustments, bucket);
     if reply.refusal != 0 {
@@ -186,12 +220,9 @@ fn find(
     bin: u32,
     position: u32,
 ) -> Step
-    requires { ⌜ Mapped state (arraysNow tops ends blocks adjustments) ⌝ }
+    requires { ⌜ HasMap state (arraysNow tops ends blocks adjustments) ⌝ }
     ensures { λ r. ⌜ Reads state (given tops ends blocks adjustments) (line.At bin position) r ⌝ }
 {
-    if is_empty(state) {
-        return refused(state, 10);
-    }
     let header = state.current;
     let reply = lookup::found(header, tops, ends, blocks, adjustments, bin, position);
     if reply.refusal != 0 {
@@ -203,26 +234,6 @@ fn find(
             bucket: reply.bucket,
         },
     )
-}
-
-// `moves`: the rows are asked for page by page.
-fn moves(state: State) -> Step
-    ensures { λ r. ⌜ Answers state line.Moves r ⌝ }
-{
-    if is_empty(state) {
-        return refused(state, 10);
-    }
-    told(state, Answer::Moves)
-}
-
-// A line that says nothing.
-fn unreadable(state: State) -> Step
-    ensures { λ r. ⌜ Answers state line.Unreadable r ⌝ }
-{
-    if is_empty(state) {
-        return refused(state, 10); // before 23
-    }
-    refused(state, 23)
 }
 
 // What a command does to the map, in the first four arrays, and to the other table.
@@ -248,6 +259,10 @@ pub fn act(
         (left tops ends blocks adjustments) (left «other_tops» «other_ends» «other_blocks» «other_adjustments»)
         ⌝ }
 {
+    let wrong = line_refusal(state, command);
+    if wrong != 0 {
+        return refused(state, wrong);
+    }
     match command {
         Command::Fresh { buckets, bins } => {
             fresh(state, buckets, bins, tops, ends, blocks, adjustments)
@@ -269,7 +284,8 @@ pub fn act(
         Command::At { bin, position } => {
             find(state, tops, ends, blocks, adjustments, bin, position)
         }
-        Command::Moves => moves(state),
-        Command::Unreadable => unreadable(state),
+        // the rows are asked for page by page
+        Command::Moves => told(state, Answer::Moves),
+        Command::Unreadable => refused(state, 23), // it was refused above
     }
 }

@@ -11,7 +11,7 @@ returns : tie.Need-returns
 returns c =
     record {
       figures = figures;
-      listing = listing;
+      listing = listing .0;
       closedForm = closed-form;
       oneWay = one-way;
       duesSum = dues-sum;
