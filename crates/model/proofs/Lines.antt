@@ -6,7 +6,6 @@ use mathlib.Core.Bool.{Bool, true, false, not}
 use mathlib.Core.List.{List, [], _∷_}
 use native.Mathlib.Decide.{ℕ-discrete}
 use native.Mathlib.Omega.{arith}
-use lib.Dec.{eqb}
 use borrow.Author.Tests.{eq-eqb, ne-eqb}
 use Rattle.model.specs.Basics.{if_then_else_, _and_, _or_}
 use Rattle.model.specs.Refusal.{first}
@@ -24,20 +23,20 @@ use Rattle.model.proofs.Refusals.{and-false, first-number, accepted as 
 -- the refusals of a command
 abbrev Orders : Session → Command → Type 0
 Orders s c =
-    ((noMap s ≡ true) × (c ≡ Unreadable) × (tenFirst s c ≡ 10) × (commandRefusal s c ≡ 23))
-    ⊎ ((noMap s and isUnreadable c ≡ false) × (commandRefusal s c ≡ tenFirst s c))
+    ((noMap s and isUnreadable c ≡ true) × (tenFirst s c ≡ 10) × (commandRefusal s c ≡ 23))
+    ⊎ ((noMap s and isUnreadable c ≡ false) × (tenFirst s c ≡ commandRefusal s c))
 
 -- of a line that says nothing they are 10 and 23 without a map, and 23 with one
 unreadable-orders : (s : Session) → Orders s Unreadable
 unfolding noMap isFresh isUnreadable lineTests commandRefusal tenFirst first if_then_else_ _and_
-unreadable-orders empty = inl (refl, refl, refl, refl)
+unreadable-orders empty = inl (refl, refl, refl)
 unreadable-orders (fresh t) = inr (refl, refl)
 unreadable-orders (grown t u) = inr (refl, refl)
 
 -- of a command 23 is passed over in both
 orders : (s : Session) (c : Command) → Orders s c
 unfolding isFresh isUnreadable lineTests commandRefusal tenFirst first if_then_else_
-orders s (Fresh b n) = inr (and-false (noMap s), refl)
+orders s (Fresh b n) = inr (and-false (noMap s), rw (and-false (noMap s)))
 orders s (Grow b n) = inr (and-false (noMap s), refl)
 orders s (Where x) = inr (and-false (noMap s), refl)
 orders s (At y p) = inr (and-false (noMap s), refl)
@@ -47,7 +46,7 @@ orders s Unreadable = unreadable-orders s
 pub two-orders : TwoOrders
 unfolding after afterTenFirst answer if_then_else_
 two-orders s l = (
-  ⊎-elim (λ u. rw (u .2, u .3)) (λ e. rw (e .1)) (orders s (read l)),
+  ⊎-elim (λ u. rw (u .1, u .2)) (λ e. rw (e .1)) (orders s (read l)),
   orders s (read l),
 )
 

@@ -11,7 +11,6 @@ use Rattle.model.specs.Calls.{answer}
 use Rattle.model.specs.Console.{text, read, Session, noMap, current, isFresh, isUnreadable, commandTests, commandRefusal}
 use Rattle.model.specs.Console.{accepted, after, afterAll, output}
 use Rattle.model.specs.declared.command.Command.{Command}
-use Rattle.model.specs.declared.command.Command.the-variants.{Unreadable}
 
 -- THE TWO ORDERS
 
@@ -23,14 +22,14 @@ tenFirst s c = first ((10, noMap s and not (isFresh c)) ∷ (23, isUnreadable c)
 unfoldable pub afterTenFirst : Session → List ℕ → Session
 afterTenFirst s l = answer (tenFirst s (read l)) (accepted s (read l)) s
 
--- The session after a line is the same in both orders. An unreadable line while there is no map is refused by 10 in document 01's order
--- and by 23 in the program's; in every other case the refusals are equal.
+-- The session after a line is the same in both orders. Where there is no map and the line is unreadable, it is refused by 10 in document
+-- 01's order and by 23 in the program's; in every other case the refusals are equal.
 abbrev pub TwoOrders : Type 0
 TwoOrders =
     (s : Session) (l : List ℕ)
     → (after s l ≡ afterTenFirst s l)
-    × (((noMap s ≡ true) × (read l ≡ Unreadable) × (tenFirst s (read l) ≡ 10) × (commandRefusal s (read l) ≡ 23))
-    ⊎ ((noMap s and isUnreadable (read l) ≡ false) × (commandRefusal s (read l) ≡ tenFirst s (read l))))
+    × (((noMap s and isUnreadable (read l) ≡ true) × (tenFirst s (read l) ≡ 10) × (commandRefusal s (read l) ≡ 23))
+    ⊎ ((noMap s and isUnreadable (read l) ≡ false) × (tenFirst s (read l) ≡ commandRefusal s (read l))))
 
 -- THE FIRST MAP
 

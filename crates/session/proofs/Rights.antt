@@ -7,7 +7,6 @@ use native.Mathlib.Decide.{ℕ-discrete}
 use native.Mathlib.Omega.{arith}
 use lib.ListN.{length, drop, length-append, length-drop}
 use borrow.Author.Tests.{le-ltb, ltb-false}
-use Rattle.model.specs.Basics.{if_then_else_}
 use Rattle.model.specs.Limits.{maxCapacity, maxIntervals}
 use Rattle.model.specs.Table.{Table, Arrays, header, over, written, sizes}
 use Rattle.model.specs.Refusal.{first, intervalsFull, capacityOutside, roomShort}

@@ -79,11 +79,7 @@ module _ (m : Maps) where
   unfolding lineTests session
   line-tests c u n p q = rw (p, q, no-map (m .state .stage) _ _)
 
-  -- a line that they refuse; one that is accepted, they let pass
-  pub line-refusal : (c : Command) (r : ℕ) → r ≡ first (lineTests (session m) c) → (r ≡ 0 → ⊥) → commandRefusal (session m) c ≡ r
-  unfolding commandRefusal
-  line-refusal c r e n = first-found (lineTests (session m) c) _ (λ z. n (e ∙ z)) ∙ sym e
-
+  -- a line that is accepted, they let pass
   line-passed : (c : Command) → commandRefusal (session m) c ≡ 0 → first (lineTests (session m) c) ≡ 0
   unfolding commandRefusal
   line-passed c e = first-both (lineTests (session m) c) _ (numbered (session m) c) e .0
@@ -149,7 +145,8 @@ module _ (m : Maps) where
   pub line-step
       : (c : Command) (r : ℕ) (z : Step) → z ≡ record { state = m .state; flip = false; answer = says.Refused r }
       → r ≡ first (lineTests (session m) c) → (r ≡ 0 → ⊥) → Stepped m c z (m .this) (m .other)
-  line-step c r z w e n = refused-step c r z w (line-refusal c r e n) n
+  unfolding commandRefusal
+  line-step c r z w e n = refused-step c r z w (first-found (lineTests (session m) c) _ (λ z. n (e ∙ z)) ∙ sym e) n
 
   -- `moves`, and a line that says nothing
   pub moves-step

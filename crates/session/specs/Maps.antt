@@ -131,7 +131,7 @@ Reads st this c r = Renews st this c r this
 abbrev pub Mapped : State → Arrays → Type 0
 Mapped st this = isEmpty (st .stage) ≡ false → Sound (st .current) this
 
--- there is one, and it is
+-- there is one, and it is sound
 abbrev pub HasMap : State → Arrays → Type 0
 HasMap st this = (isEmpty (st .stage) ≡ false) × Sound (st .current) this
 

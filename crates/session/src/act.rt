@@ -39,7 +39,7 @@ fn is_unreadable(command: Command) -> bool
     }
 }
 
-// Whether there is no map and a command other than `fresh`.
+// Whether there is no map, and the command is another than `fresh`.
 fn is_unmapped(state: State, command: Command) -> bool
     ensures { λ r. ⌜ r ≡ (emptyAt (state .stage) and not (isFresh command)) ⌝ }
 {

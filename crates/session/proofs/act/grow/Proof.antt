@@ -1,5 +1,4 @@
 -- `session::act::grow` meets its contract. Assumes nothing.
-use Rattle.model.specs.declared.command.Command.the-variants.{Grow}
 use Rattle.session.specs.Maps.{mapOf}
 use Rattle.session.proofs.Steps.{grow-refused, grow-step}
 use borrow.Author.Needs.{needs}
