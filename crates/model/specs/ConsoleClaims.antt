@@ -8,9 +8,10 @@ use lib.Dec.{eqb}
 use Rattle.model.specs.Basics.{_and_, _or_}
 use Rattle.model.specs.Refusal.{first}
 use Rattle.model.specs.Calls.{answer}
-use Rattle.model.specs.Console.{text, read, Session, noMap, current, isFresh, isUnreadable, commandTests, commandRefusal}
-use Rattle.model.specs.Console.{accepted, after, afterAll, output}
+use Rattle.model.specs.Console.{text, read, Session, empty, noMap, current, isFresh, isUnreadable, commandTests, commandRefusal}
+use Rattle.model.specs.Console.{line, accepted, after, printed, afterAll, output}
 use Rattle.model.specs.declared.command.Command.{Command}
+use Rattle.model.specs.declared.command.Command.the-variants.{Fresh, Unreadable}
 
 -- THE TWO ORDERS
 
@@ -22,14 +23,28 @@ tenFirst s c = first ((10, noMap s and not (isFresh c)) ∷ (23, isUnreadable c)
 unfoldable pub afterTenFirst : Session → List ℕ → Session
 afterTenFirst s l = answer (tenFirst s (read l)) (accepted s (read l)) s
 
--- The session after a line is the same in both orders. Where there is no map and the line is unreadable, it is refused by 10 in document
--- 01's order and by 23 in the program's; in every other case the refusals are equal.
+-- the refusals of a command: where there is no map and it is unreadable 10 in document 01's order and 23 in the program's, and in every
+-- other case equal
+abbrev pub Orders : Session → Command → Type 0
+Orders s c =
+    ((noMap s and isUnreadable c ≡ true) × (tenFirst s c ≡ 10) × (commandRefusal s c ≡ 23))
+    ⊎ ((noMap s and isUnreadable c ≡ false) × (tenFirst s c ≡ commandRefusal s c))
+
+-- of every line; and the session after it is the same in both
 abbrev pub TwoOrders : Type 0
-TwoOrders =
-    (s : Session) (l : List ℕ)
-    → (after s l ≡ afterTenFirst s l)
-    × (((noMap s and isUnreadable (read l) ≡ true) × (tenFirst s (read l) ≡ 10) × (commandRefusal s (read l) ≡ 23))
-    ⊎ ((noMap s and isUnreadable (read l) ≡ false) × (tenFirst s (read l) ≡ commandRefusal s (read l))))
+TwoOrders = (s : Session) (l : List ℕ) → Orders s (read l) × (after s l ≡ afterTenFirst s l)
+
+-- WHAT IS PRINTED
+
+-- the line prints that it is refused by r, and changes nothing
+abbrev pub Refuses : ℕ → Session → List ℕ → Type 0
+Refuses r s l = (printed s l ≡ line "refused" (r ∷ [])) × (after s l ≡ s)
+
+-- an unreadable line by 23, whether there is a map or not; while there is none, a readable line other than `fresh` by 10
+abbrev pub LinesRefused : Type 0
+LinesRefused =
+    ((s : Session) (l : List ℕ) → read l ≡ Unreadable → Refuses 23 s l)
+    × ((l : List ℕ) → (read l ≡ Unreadable → ⊥) → ((b n : ℕ) → read l ≡ Fresh b n → ⊥) → Refuses 10 empty l)
 
 -- THE FIRST MAP
 
@@ -45,7 +60,7 @@ someBegins s (l ∷ ls) = begins s l or someBegins (after s l) ls
 abbrev pub FirstMap : Type 0
 FirstMap = (s : Session) (ls : List (List ℕ)) → noMap (afterAll s ls) ≡ (noMap s and not (someBegins s ls))
 
--- mistyped lines before the first map, between refused ones, and after it
+-- mistyped lines before the first map, after a refused `fresh` and after an accepted one
 abbrev pub Mistyped : Type 0
 Mistyped =
     output (text "fresh 10\nwhere 3\nfresh 0 1\nfrehs 10 2\nmoves\n\nfresh 10 2\nwhere\nwhere 3\n")
@@ -53,5 +68,6 @@ Mistyped =
 
 pub record ConsoleClaims : Type 0 where
   pub twoOrders : TwoOrders
+  pub linesRefused : LinesRefused
   pub firstMap : FirstMap
   pub mistyped : Mistyped

@@ -15,11 +15,12 @@ use Rattle.model.specs.declared.answer.Answer.{Answer}
 use Rattle.model.specs.declared.answer.Answer.the-variants as says
 use Rattle.model.specs.declared.command.Command.{Command}
 use Rattle.model.specs.declared.command.Command.the-variants.{Fresh, Grow, Where, At, Moves, Unreadable}
+use Rattle.model.proofs.Lines.{unreadable-refusal}
 use Rattle.model.proofs.Refusals.{accepted as answer-accepted, refused as answer-refused}
 use Rattle.model.proofs.Tables.{table-written}
 use Rattle.session.specs.Maps.{Maps, mapOf, beforeOf, sessionAt, session, performed, next, shown, isList, listed}
 use Rattle.session.specs.Claims.{SessionKept, SessionSpoken}
-use Rattle.session.proofs.Steps.{unreadable-refusal, map-current, has-map}
+use Rattle.session.proofs.Steps.{map-current, has-map}
 
 -- an accepted step leaves document 01's session
 performed-kept
@@ -80,6 +81,6 @@ session-spoken s l =
           ∙ sym (ap (answerText s) same)
     ]
 
--- a line that says nothing is refused
+-- an unreadable line is refused
 pub unreadable-refused : (s : Session) → commandRefusal s Unreadable ≡ 0 → ⊥
 unreadable-refused s e = omega (arith, e, unreadable-refusal s)

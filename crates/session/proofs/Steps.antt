@@ -25,6 +25,7 @@ use Rattle.model.specs.declared.reply.PlaceReply.{PlaceReply}
 use Rattle.model.specs.declared.reply.FindReply.{FindReply}
 use Rattle.model.proofs.Counts.{bit-cases}
 use Rattle.model.proofs.Flags.{and-true}
+use Rattle.model.proofs.Lines.{unreadable-refusal}
 use Rattle.model.proofs.Refusals.{and-false, Numbered, first-number, first-found, first-both, accepted as answer-accepted, refused as answer-refused}
 use Rattle.model.proofs.Soundness.{arrays-written}
 use Rattle.model.proofs.Searches.{first-searched, found-refusal}
@@ -65,11 +66,6 @@ refusal-number r f a b h k =
 numbered : (s : Session) (c : Command) → Numbered (lineTests s c)
 unfolding lineTests
 numbered s c = omega arith
-
--- a line that says nothing
-pub unreadable-refusal : (s : Session) → commandRefusal s Unreadable ≡ 23
-unfolding commandRefusal lineTests isUnreadable first if_then_else_
-unreadable-refusal s = refl
 
 module _ (m : Maps) where
   -- the tests of every line, where u says that it is unreadable, and n that there is no map and it is not `fresh`
@@ -148,7 +144,7 @@ module _ (m : Maps) where
   unfolding commandRefusal
   line-step c r z w e n = refused-step c r z w (first-found (lineTests (session m) c) _ (λ z. n (e ∙ z)) ∙ sym e) n
 
-  -- `moves`, and a line that says nothing
+  -- `moves`, and an unreadable line
   pub moves-step
       : (z : Step) → z ≡ record { state = m .state; flip = false; answer = says.Moves }
       → isEmpty (m .state .stage) ≡ false → Stepped m Moves z (m .this) (m .other)

@@ -28,7 +28,7 @@ pub fn is_empty(state: State) -> bool
     }
 }
 
-// Whether a line says nothing.
+// Whether a line is unreadable.
 fn is_unreadable(command: Command) -> bool
     ensures { λ r. ⌜ r ≡ isUnreadable command ⌝ }
 {

@@ -1,6 +1,6 @@
 -- `model::console_claims` meets its contract: a proof of each claim. Assumes nothing.
 use Rattle.model.proofs.Computed.{listing}
-use Rattle.model.proofs.Lines.{two-orders, first-map}
+use Rattle.model.proofs.Lines.{two-orders, lines-refused, first-map}
 use Rattle.model.proofs.console_claims.Statement.{statement}
 use Rattle.model.proofs.console_claims.Tie as tie
 
@@ -8,6 +8,7 @@ returns : tie.Need-returns
 returns c =
     record {
       twoOrders = two-orders;
+      linesRefused = lines-refused;
       firstMap = first-map;
       mistyped = listing .1;
     }
