@@ -9,7 +9,7 @@ use borrow.Author.Tests.{lt-ltb, le-ltb}
 use Rattle.model.specs.Basics.{if_then_else_}
 use Rattle.model.specs.Limits.{maxCapacity}
 use Rattle.model.specs.Table.{Shape, Table, Arrays, arrays, table, header, over, written}
-use Rattle.model.specs.Refusal.{Test, first, overfills, outside, headerOutside, arraysShort, capacityOutside, roomShort, resultShort}
+use Rattle.model.specs.Refusal.{first, overfills, outside, headerOutside, arraysShort, capacityOutside, roomShort, resultShort}
 use Rattle.model.specs.Place.{places}
 use Rattle.model.specs.Search.{placeAt}
 use Rattle.model.specs.Sound.{Formed}
@@ -29,7 +29,7 @@ use Rattle.file_load.specs.Loading.{loadedOver}
 use Rattle.model.proofs.Bytes.{saved-same}
 use Rattle.model.proofs.Sheets.{sheet-same}
 use Rattle.model.proofs.Loads.{or-second}
-use Rattle.model.proofs.Soundness.{sound-iff, table-numbered}
+use Rattle.model.proofs.Checked.{checked, stands, passed}
 use Rattle.model.proofs.Searches.{place-answered}
 
 -- a lent array that is too short is refused by the first test
@@ -38,43 +38,31 @@ unfolding tableTests
 short-refused h a e = sym (first-here _ _ (or-second (headerOutside h) (arraysShort h a) e))
 
 module _ (h : Header) (a : Arrays) (r : ℕ) (e : r ≡ first (tableTests h a)) where
-  -- a table that the check passes is sound, so it passes rules 11 to 16
-  pub checked : r ≡ 0 → Formed h a
-  checked z = sound-iff h a .0 (sym e ∙ z) .formed
-
-  -- a refusal by the table's tests stands
-  pub stands : (us : List Test) → (r ≡ 0 → ⊥) → r ≡ first (tableTests h a ++ us)
-  stands us n = e ∙ sym (first-found (tableTests h a) us (λ z. n (e ∙ z)))
-
-  -- otherwise the tests after them answer
-  pub passed : (us : List Test) → r ≡ 0 → first us ≡ first (tableTests h a ++ us)
-  passed us z = sym (first-after (tableTests h a) us (table-numbered h a) (sym e ∙ z))
-
   pub place-refused : (x : ℕ) → (r ≡ 0 → ⊥) → record { refusal = r; bin = 0; position = 0 } ≡ placeReply h a x
   unfolding placeReply placeAnswer
-  place-refused x n = rw (← stands (placeTests (table h a) x) n) (sym (refused r _ _ n))
+  place-refused x n = rw (← stands h a r e (placeTests (table h a) x) n) (sym (refused r _ _ n))
 
   pub place-accepted : (x : ℕ) → r ≡ 0 → placeAt (table h a) x ≡ placeReply h a x
   unfolding placeReply
   place-accepted x z =
-      sym (place-answered (table h a) x) ∙ ap (λ q. placeAnswer q (table h a) x) (passed (placeTests (table h a) x) z)
+      sym (place-answered (table h a) x) ∙ ap (λ q. placeAnswer q (table h a) x) (passed h a r e (placeTests (table h a) x) z)
 
   pub find-refused : (y p : ℕ) → (r ≡ 0 → ⊥) → record { refusal = r; bucket = 0 } ≡ findReply h a y p
   unfolding findReply findAnswer
-  find-refused y p n = rw (← stands (findTests (table h a) y p) n) (sym (refused r _ _ n))
+  find-refused y p n = rw (← stands h a r e (findTests (table h a) y p) n) (sym (refused r _ _ n))
 
   pub find-accepted
       : (y p : ℕ) → r ≡ 0 → findAnswer (first (findTests (table h a) y p)) (table h a) y p ≡ findReply h a y p
   unfolding findReply
-  find-accepted y p z = ap (λ q. findAnswer q (table h a) y p) (passed (findTests (table h a) y p) z)
+  find-accepted y p z = ap (λ q. findAnswer q (table h a) y p) (passed h a r e (findTests (table h a) y p) z)
 
   pub size-refused : (y : ℕ) → (r ≡ 0 → ⊥) → record { refusal = r; buckets = 0 } ≡ binSizeReply h a y
   unfolding binSizeReply binSizeAnswer
-  size-refused y n = rw (← stands (binSizeTests (table h a) y) n) (sym (refused r _ _ n))
+  size-refused y n = rw (← stands h a r e (binSizeTests (table h a) y) n) (sym (refused r _ _ n))
 
   pub size-accepted : (y : ℕ) → r ≡ 0 → binSizeAnswer (first (binSizeTests (table h a) y)) (table h a) y ≡ binSizeReply h a y
   unfolding binSizeReply
-  size-accepted y z = ap (λ q. binSizeAnswer q (table h a) y) (passed (binSizeTests (table h a) y) z)
+  size-accepted y z = ap (λ q. binSizeAnswer q (table h a) y) (passed h a r e (binSizeTests (table h a) y) z)
 
 -- PLACING A LIST OF BUCKETS
 

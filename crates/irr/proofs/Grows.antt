@@ -22,7 +22,7 @@ use Rattle.model.specs.declared.table.Header.{Header}
 use Rattle.model.specs.declared.reply.TableReply.{TableReply}
 use Rattle.model.proofs.Refusals.{first-skip, refused}
 use Rattle.expansion.specs.Replies.{growRefusal, GrowReply}
-use Rattle.irr.proofs.Answers.{stands, passed}
+use Rattle.model.proofs.Checked.{stands, passed}
 
 abbrev refusal : ℕ → TableReply
 refusal r = record { refusal = r; moved = 0; header = noHeader }

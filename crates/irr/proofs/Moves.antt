@@ -11,7 +11,7 @@ use Rattle.model.specs.declared.table.Header.{Header}
 use Rattle.model.specs.declared.reply.RelocationsReply.{RelocationsReply}
 use Rattle.model.proofs.Refusals.{refused}
 use Rattle.expansion.specs.Replies.{MovesReply}
-use Rattle.irr.proofs.Answers.{stands, passed}
+use Rattle.model.proofs.Checked.{stands, passed}
 
 module _ (h : Header) (a : Arrays) (r : ℕ) (e : r ≡ first (tableTests h a)) (s : Shape) (q : ℕ) (buffer : List ℕ) where
   -- refused by the table's tests

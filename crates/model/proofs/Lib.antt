@@ -17,6 +17,7 @@ pub mod Batches
 pub mod Rules
 pub mod Capacities
 pub mod Soundness
+pub mod Checked
 pub mod Flags
 pub mod Holdings
 pub mod Files

@@ -1,6 +1,6 @@
 -- `irr::expand` meets its contract: the room, the check, then the growth of a sound table. Assumes nothing.
 use mathlib.Core.Path.{sym, _∙_}
-use Rattle.irr.proofs.Answers.{checked}
+use Rattle.model.proofs.Checked.{checked}
 use Rattle.irr.proofs.Grows.{expand-short, expand-refused, expand-accepted}
 use borrow.Author.Needs.{needs}
 use Rattle.irr.proofs.expand.Statement.{statement}

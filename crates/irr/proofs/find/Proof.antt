@@ -1,6 +1,7 @@
 -- `irr::find` meets its contract: the check, then what reads a sound table. Assumes nothing.
 use mathlib.Core.Path.{_∙_}
-use Rattle.irr.proofs.Answers.{checked, find-refused, find-accepted}
+use Rattle.model.proofs.Checked.{checked}
+use Rattle.irr.proofs.Answers.{find-refused, find-accepted}
 use borrow.Author.Needs.{needs}
 use Rattle.irr.proofs.find.Statement.{statement}
 use Rattle.irr.proofs.find.Tie as tie

@@ -1,6 +1,7 @@
 -- `irr::place` meets its contract: the check, then what reads a sound table. Assumes nothing.
 use mathlib.Core.Path.{_∙_}
-use Rattle.irr.proofs.Answers.{checked, place-refused, place-accepted}
+use Rattle.model.proofs.Checked.{checked}
+use Rattle.irr.proofs.Answers.{place-refused, place-accepted}
 use borrow.Author.Needs.{needs}
 use Rattle.irr.proofs.place.Statement.{statement}
 use Rattle.irr.proofs.place.Tie as tie

@@ -6,7 +6,8 @@ use lib.ListN.{length}
 use Rattle.model.specs.Basics.{if_then_else_}
 use Rattle.model.specs.Calls.{answer}
 use Rattle.model.proofs.Refusals.{refused}
-use Rattle.irr.proofs.Answers.{checked, stands, passed, places-short, places-later, places-answers}
+use Rattle.model.proofs.Checked.{checked, stands, passed}
+use Rattle.irr.proofs.Answers.{places-short, places-later, places-answers}
 use borrow.Author.Needs.{needs}
 use Rattle.irr.proofs.places.Statement.{statement}
 use Rattle.irr.proofs.places.Tie as tie

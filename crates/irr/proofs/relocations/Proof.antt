@@ -1,5 +1,5 @@
 -- `irr::relocations` meets its contract: the check, then the move list of a sound table. Assumes nothing.
-use Rattle.irr.proofs.Answers.{checked}
+use Rattle.model.proofs.Checked.{checked}
 use Rattle.irr.proofs.Moves.{list-refused, list-accepted}
 use borrow.Author.Needs.{needs}
 use Rattle.irr.proofs.relocations.Statement.{statement}

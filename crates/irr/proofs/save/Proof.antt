@@ -3,7 +3,8 @@ use Prim.Native.Nat.{_+_, _*_}
 use mathlib.Core.Path.{refl, _∙_}
 use native.Mathlib.Omega.{arith}
 use Rattle.model.specs.Saved.{savedLength}
-use Rattle.irr.proofs.Answers.{checked, save-refused, save-short, save-accepted, save-written}
+use Rattle.model.proofs.Checked.{checked}
+use Rattle.irr.proofs.Answers.{save-refused, save-short, save-accepted, save-written}
 use borrow.Author.Needs.{needs}
 use Rattle.irr.proofs.save.Statement.{statement}
 use Rattle.irr.proofs.save.Tie as tie

@@ -1,6 +1,7 @@
 -- `irr::sheet` meets its contract: the check, then what prints a sound table. Assumes nothing.
 use borrow.Author.Needs.{needs}
-use Rattle.irr.proofs.Answers.{checked, sheet-refused, sheet-printed}
+use Rattle.model.proofs.Checked.{checked}
+use Rattle.irr.proofs.Answers.{sheet-refused, sheet-printed}
 use Rattle.irr.proofs.sheet.Statement.{statement}
 use Rattle.irr.proofs.sheet.Tie as tie
 
