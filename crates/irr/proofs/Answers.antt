@@ -25,7 +25,7 @@ use Rattle.model.specs.declared.table.Header.{Header}
 use Rattle.model.specs.declared.reply.TableReply.{TableReply}
 use Rattle.model.specs.declared.reply.SheetReply.{SheetReply}
 use Rattle.model.proofs.Refusals.{first-here, first-skip, first-found, first-after, accepted, refused}
-use Rattle.file_load.specs.Loading.{loadedOver}
+use Rattle.file_judged.specs.Loading.{loadedOver}
 use Rattle.model.proofs.Bytes.{saved-same}
 use Rattle.model.proofs.Sheets.{sheet-same}
 use Rattle.model.proofs.Loads.{or-second}

@@ -1,11 +1,11 @@
--- `file_load::loaded` meets its contract: rule 11, then the decoded arrays. Assumes nothing.
+-- `file_load::loaded` meets its contract: rule 11, then the rules after it. Assumes nothing.
 use mathlib.Core.Path.{_≡_, refl, sym, _∙_}
 use mathlib.Core.Bool.{false}
 use native.Mathlib.Omega.{arith}
 use Rattle.model.specs.Table.{arrays}
 use Rattle.model.specs.Saved.{fileWrong}
-use Rattle.file_load.specs.Loading.{Opened}
-use Rattle.file_load.proofs.Passed.{counted, opened, opened-alone, file-refused, loaded-replied}
+use Rattle.file_read.specs.Opening.{Opened}
+use Rattle.file_load.proofs.Replies.{counted, opened, opened-alone, file-refused, loaded-replied}
 use borrow.Author.Needs.{needs}
 use Rattle.file_load.proofs.loaded.Statement.{statement}
 use Rattle.file_load.proofs.loaded.Tie as tie

@@ -1,12 +1,12 @@
--- `file_load::load_by` meets its contract: rules 12 to 15, then the judged file is loaded. Assumes nothing.
+-- `file_judged::load_by` meets its contract: rules 12 to 15, then the judged file is loaded. Assumes nothing.
 use mathlib.Core.Path.{_≡_, sym, _∙_, ap}
 use lib.ListN.{length, take}
 use Rattle.model.proofs.Tables.{length-from, taken}
 use Rattle.file_rules.specs.Judging.{fileArrays}
-use Rattle.file_load.proofs.Passed.{loaded-refused, completed-judged}
+use Rattle.file_judged.proofs.Passed.{loaded-refused, completed-judged}
 use borrow.Author.Needs.{needs}
-use Rattle.file_load.proofs.load_by.Statement.{statement}
-use Rattle.file_load.proofs.load_by.Tie as tie
+use Rattle.file_judged.proofs.load_by.Statement.{statement}
+use Rattle.file_judged.proofs.load_by.Tie as tie
 
 -- the function's entry, from after the reading of the tops, and from after the rules
 abbrev entry : tie.After-read-numbers → tie.Start

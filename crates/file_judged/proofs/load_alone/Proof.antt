@@ -1,4 +1,4 @@
--- `file_load::load_alone` meets its contract: the decoded arrays are the file's, and an adjustment of 0 completes them. Assumes nothing.
+-- `file_judged::load_alone` meets its contract: the decoded arrays are the file's, and an adjustment of 0 completes them. Assumes nothing.
 use mathlib.Core.Path.{_≡_, ap}
 use mathlib.Core.List.{[]}
 use native.Mathlib.Omega.{arith}
@@ -6,10 +6,10 @@ use Rattle.model.specs.Table.{Arrays, arrays}
 use Rattle.model.proofs.Tables.{length-from}
 use Rattle.soundness.specs.Passed.{alone}
 use Rattle.file_rules.specs.Judging.{fileArrays}
-use Rattle.file_load.proofs.Passed.{filled, alone-completed, loaded-refused, completed-judged}
+use Rattle.file_judged.proofs.Passed.{filled, alone-completed, loaded-refused, completed-judged}
 use borrow.Author.Needs.{needs}
-use Rattle.file_load.proofs.load_alone.Statement.{statement}
-use Rattle.file_load.proofs.load_alone.Tie as tie
+use Rattle.file_judged.proofs.load_alone.Statement.{statement}
+use Rattle.file_judged.proofs.load_alone.Tie as tie
 
 -- the decoding before the rules, and the function's entry
 abbrev decoding : tie.After-judged-alone → tie.After-decode

@@ -1,10 +1,10 @@
--- `file_load::write_out` meets its contract: each array is written with its part. Assumes nothing.
+-- `file_read::write_out` meets its contract: each array is written with its part. Assumes nothing.
 use native.Mathlib.Omega.{arith}
 use Rattle.model.specs.Table.{arrays}
 use Rattle.model.proofs.Rooms.{Roomy, roomy}
 use borrow.Author.Needs.{needs}
-use Rattle.file_load.proofs.write_out.Statement.{statement}
-use Rattle.file_load.proofs.write_out.Tie as tie
+use Rattle.file_read.proofs.write_out.Statement.{statement}
+use Rattle.file_read.proofs.write_out.Tie as tie
 
 -- the function's entry, from before the first copy, and from one copy to the one before it
 abbrev entry : tie.After-copy-numbers-arg → tie.Start

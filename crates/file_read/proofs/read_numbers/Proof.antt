@@ -1,4 +1,4 @@
--- `file_load::read_numbers` meets its contract. The loop's invariant: the first i numbers are written. Assumes nothing.
+-- `file_read::read_numbers` meets its contract. The loop's invariant: the first i numbers are written. Assumes nothing.
 use Prim.Native.Nat.{_-_, _≤_}
 use mathlib.Core.Path.{_≡_, _∙_, ap}
 use native.Mathlib.Omega.{arith}
@@ -6,8 +6,8 @@ use Rattle.model.specs.Basics.{from}
 use Rattle.model.specs.Table.{over}
 use Rattle.model.specs.Saved.{number}
 use Rattle.model.proofs.Entries.{Put, put-none, put-length, put-next, put-over}
-use Rattle.file_load.proofs.read_numbers.Statement.{statement}
-use Rattle.file_load.proofs.read_numbers.Tie as tie
+use Rattle.file_read.proofs.read_numbers.Statement.{statement}
+use Rattle.file_read.proofs.read_numbers.Tie as tie
 
 abbrev Inv-loop : tie.InvT-loop
 Inv-loop f first count out₀ i₀ out i = (i ≤ count) × Put 0 i (from (number f) first i) out₀ out

@@ -1,10 +1,10 @@
--- `file_load::copy_numbers` meets its contract: what is read into the local array is what is copied. Assumes nothing.
+-- `file_read::copy_numbers` meets its contract: what is read into the local array is what is copied. Assumes nothing.
 use mathlib.Core.Path.{_∙_, ap}
 use Rattle.model.specs.Table.{over}
 use Rattle.model.proofs.Tables.{length-from, taken}
 use borrow.Author.Needs.{needs}
-use Rattle.file_load.proofs.copy_numbers.Statement.{statement}
-use Rattle.file_load.proofs.copy_numbers.Tie as tie
+use Rattle.file_read.proofs.copy_numbers.Statement.{statement}
+use Rattle.file_read.proofs.copy_numbers.Tie as tie
 
 slice-aggregate-read-numbers : tie.Need-slice-aggregate-read-numbers
 slice-aggregate-read-numbers c = search needs

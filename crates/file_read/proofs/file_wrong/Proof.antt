@@ -1,4 +1,4 @@
--- `file_load::file_wrong` meets its contract, from what `header_outside` says of the header in the file. Assumes nothing.
+-- `file_read::file_wrong` meets its contract, from what `header_outside` says of the header in the file. Assumes nothing.
 use mathlib.Core.Path.{sym, _∙_, ap}
 use mathlib.Core.Bool.{not}
 use lib.Dec.{eqb}
@@ -9,8 +9,8 @@ use Rattle.model.specs.Saved.{savedLength, fileWrong}
 use Rattle.model.specs.declared.table.Header.{Header}
 use Rattle.model.proofs.Rules.{or-first, or-last}
 use Rattle.model.proofs.Loads.{file-short}
-use Rattle.file_load.proofs.file_wrong.Statement.{statement}
-use Rattle.file_load.proofs.file_wrong.Tie as tie
+use Rattle.file_read.proofs.file_wrong.Statement.{statement}
+use Rattle.file_read.proofs.file_wrong.Tie as tie
 
 returns : tie.Need-returns
 returns c = sym (file-short _ _ (c .if1 .taken))

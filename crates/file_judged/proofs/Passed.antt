@@ -1,33 +1,31 @@
--- What the tests of a file show of it and of the header h that it says, and the table that it gives. Assumes nothing.
+-- What rules 12 to 15 and 30 show of a file that passes 11, and the table that it gives. Assumes nothing.
 use Prim.Native.Nat.{ℕ, _≤_}
-use mathlib.Core.Path.{_≡_, refl, sym, _∙_, ap, ap₂, subst}
+use mathlib.Core.Path.{_≡_, refl, sym, _∙_, ap, subst}
 use mathlib.Core.Bool.{Bool, true, false, not}
 use mathlib.Core.List.{List, [], _∷_, _++_}
 use native.Mathlib.Omega.{arith}
 use lib.Dec.{eqb}
 use lib.ListN.{length, take}
 use lib.Seq.{take-length}
-use borrow.Author.Tests.{eqb-true, not-false}
 use Rattle.model.specs.Basics.{if_then_else_, _and_, all, before, count, sum, from}
 use Rattle.model.specs.Table.{Arrays, arrays, table, over, written}
 use Rattle.model.specs.Place.{others}
-use Rattle.model.specs.Refusal.{first, topsWrong, endsWrong, blocksWrong, adjustmentOf, adjustmentsWrong, capacityWrong, roomShort}
+use Rattle.model.specs.Refusal.{first, topsWrong, endsWrong, blocksWrong, adjustmentOf, adjustmentsWrong, capacityWrong}
 use Rattle.model.specs.Sound.{Formed}
 use Rattle.model.specs.Lent.{TopsFormed}
-use Rattle.model.specs.Saved.{savedLength, loadedHeader, readArrays, loadedArrays, fileWrong}
-use Rattle.model.specs.Calls.{noHeader, arraysAfter, loadAnswer, loadTests}
+use Rattle.model.specs.Saved.{loadedHeader, readArrays, loadedArrays, fileWrong}
+use Rattle.model.specs.Calls.{arraysAfter, loadTests}
 use Rattle.model.specs.declared.table.Header.{Header}
-use Rattle.model.specs.declared.reply.LoadReply.{LoadReply}
-use Rattle.model.proofs.Refusals.{or-left, or-right, first-clear, first-skip, first-here, first-none, first-found, first-after, accepted, refused}
+use Rattle.model.proofs.Refusals.{first-clear, first-skip, first-here, first-none, first-found, first-after, accepted, refused}
 use Rattle.model.proofs.Soundness.{passes-formed}
 use Rattle.model.proofs.Files.{file-passes}
 use Rattle.model.proofs.Tables.{length-from, length-over, taken}
-use Rattle.model.proofs.Rules.{blocks-inside, intervals-inside}
 use Rattle.model.proofs.Holdings.{holdings-same}
 use Rattle.model.proofs.Loads.{written-whole}
 use Rattle.soundness.specs.Passed.{layoutTests, ruleTests, alone}
-use Rattle.file_rules.specs.Judging.{fileArrays, Counted, arrayTests, Completed}
-use Rattle.file_load.specs.Loading.{Opened, Judged, outOver, loadedOver, Loaded}
+use Rattle.file_rules.specs.Judging.{fileArrays, arrayTests, Completed}
+use Rattle.file_read.specs.Opening.{Opened, outOver}
+use Rattle.file_judged.specs.Loading.{Judged, loadedOver, Loaded}
 
 -- the arrays of a file of header h, with the adjustments worked out; at the header that the file says, its `loadedArrays`
 abbrev adjustedArrays : List ℕ → Header → Arrays
@@ -51,22 +49,6 @@ loaded-formed f p w z =
     passes-formed _ _ (file-passes f p w tops ends blocks (holdings-same (loadedHeader f p) _ _ _ _ [] ∙ holdings))
 
 module _ (f : List ℕ) (p : ℕ) (h : Header) (e : h ≡ loadedHeader f p) where
-  -- rule 11 passed
-  pub counted : fileWrong f p ≡ false → Counted f h
-  unfolding fileWrong savedLength
-  counted w =
-      let header = or-left _ _ w in
-      let g = blocks-inside (loadedHeader f p) header in
-      let k = intervals-inside (loadedHeader f p) header in
-      subst (Counted f) (sym e)
-      (record {
-        someBlocks = g .0;
-        blockLimit = g .1;
-        someIntervals = k .0;
-        intervalLimit = k .1;
-        fits = eqb-true _ _ (not-false _ (or-right _ _ w));
-      })
-
   -- the others answer
   pub later
       : fileWrong f p ≡ false
@@ -241,49 +223,3 @@ alone-completed b p a tops ends blocks x r same z e =
           ++ ((15, holdings-same (alone b p) ends blocks tops (x ∷ []) [] i) ∷ (16, right i) ∷ [])));
       adjusted = λ _. ap (λ y. y ∷ []) (z ∙ sym (first-adjustment (alone b p) (arrays tops ends blocks [])));
     })
-
--- REPLIES
-
-pub file-refused
-    : (f : List ℕ) (p : ℕ) (old : Arrays) → fileWrong f p ≡ true
-    → (record { refusal = 11; header = noHeader } ≡ loadAnswer (first (loadTests f p)) (loadedHeader f p)) × (old ≡ loadedOver f p old)
-unfolding loadTests loadedOver arraysAfter
-file-refused f p old w =
-    let eleven : first (loadTests f p) ≡ 11 = first-here (11, fileWrong f p) _ w in
-    let never : first (loadTests f p) ≡ 0 → ⊥ = λ z. omega arith in (
-      ap (λ r. record { refusal = r; header = noHeader }) (sym eleven) ∙ sym (refused (first (loadTests f p)) _ _ never),
-      sym (refused (first (loadTests f p)) _ _ never),
-    )
-
--- the capacity of its header is the one given
-file-capacity : (f : List ℕ) (p : ℕ) (h : Header) → h ≡ loadedHeader f p → h .capacity ≡ p
-unfolding loadedHeader
-file-capacity f p h e = ap (λ (g : Header). g .capacity) e
-
-pub loaded-replied
-    : (f : List ℕ) (p : ℕ) (h : Header) (old left : Arrays) (r : ℕ) (z : LoadReply)
-    → h ≡ loadedHeader f p → Loaded f (h .capacity) old r left → z ≡ loadAnswer r h
-    → (z ≡ loadAnswer (first (loadTests f p)) (loadedHeader f p)) × (left ≡ loadedOver f p old)
-loaded-replied f p h old left r z e l d =
-    let k = subst (λ q. Loaded f q old r left) (file-capacity f p h e) l in (d ∙ ap₂ loadAnswer (k .refusal) e, k .lent)
-
--- a file that passes 11, with arrays that have room
-pub opened
-    : (f : List ℕ) (p : ℕ) (h : Header) (out : Arrays) → h ≡ loadedHeader f p → fileWrong f p ≡ false → roomShort out ≡ false
-    → Opened f h out
-opened f p h out e w r =
-    let same = sym (file-capacity f p h e) in
-    record {
-      says = e ∙ ap (loadedHeader f) same;
-      passes = subst (λ q. fileWrong f q ≡ false) same w;
-      counted = counted f p h e w;
-      room = r;
-    }
-
-pub opened-alone
-    : (f : List ℕ) (h : Header) (out : Arrays) → Opened f h out → h .«block_count» ≡ 1 → h .«interval_count» ≡ 1
-    → Opened f (alone (h .buckets) (h .capacity)) out
-opened-alone f h out o p q =
-    subst (λ g. Opened f g out)
-    (λ i. record { buckets = h .buckets; capacity = h .capacity; «block_count» = p i; «interval_count» = q i })
-    o

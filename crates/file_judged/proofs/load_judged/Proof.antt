@@ -1,8 +1,8 @@
--- `file_load::load_judged` meets its contract: 30, then the table is written. Assumes nothing.
-use Rattle.file_load.proofs.Passed.{judged-tops, judged-refused, judged-accepted}
+-- `file_judged::load_judged` meets its contract: 30, then the table is written. Assumes nothing.
+use Rattle.file_judged.proofs.Passed.{judged-tops, judged-refused, judged-accepted}
 use borrow.Author.Needs.{needs}
-use Rattle.file_load.proofs.load_judged.Statement.{statement}
-use Rattle.file_load.proofs.load_judged.Tie as tie
+use Rattle.file_judged.proofs.load_judged.Statement.{statement}
+use Rattle.file_judged.proofs.load_judged.Tie as tie
 
 -- the function's entry, from after the test of 30
 abbrev entry : tie.After-capacity-wrong → tie.Start
