@@ -1,6 +1,7 @@
 // Saving: document 01, 'A saved map has 4-byte numbers, low byte first'.
 use file_number::put_number;
 use model::limits::INTERVALS;
+use model::reply::SaveReply;
 use model::table::Header;
 use table::copy;
 ghost use mathlib.Core.Path.{_≡_};
@@ -11,7 +12,11 @@ ghost use lib.Seq.{sets};
 ghost use Rattle.model.specs.Basics.{joined};
 ghost use Rattle.model.specs.Limits.{maxIntervals};
 ghost use Rattle.model.specs.Table.{arrays, table, over};
-ghost use Rattle.model.specs.Saved.{bytesOf, saved, savedLength};
+ghost use Rattle.model.specs.Lent.{SpansFormed};
+ghost use Rattle.model.specs.Refusal.{first};
+ghost use Rattle.model.specs.Saved.{bytesOf, saved as savedOf, savedLength};
+ghost use Rattle.model.specs.Calls.{saveTests};
+ghost use Rattle.file_save.specs.Saving.{saveAnswer, saveAfter};
 
 // Writes the first `count` numbers over the bytes from `at` on.
 fn put_each(xs: &[u32], count: usize, out: &mut [u8], at: usize)
@@ -44,14 +49,14 @@ fn put_numbers(xs: &[u32], count: usize, out: &mut [u8], at: usize)
 }
 
 // Writes a table: B, G, k, the G tops, then two parallel arrays, k ends and k blocks.
-pub fn write_saved(h: Header, tops: &[u32], ends: &[u32], blocks: &[u32], out: &mut [u8])
+fn write_saved(h: Header, tops: &[u32], ends: &[u32], blocks: &[u32], out: &mut [u8])
     requires { ⌜
         (h .«block_count» ≤ length (now tops)) × (h .«interval_count» ≤ length (now ends)) × (h .«interval_count» ≤ length (now blocks)) ×
         (h .«interval_count» ≤ maxIntervals) × (savedLength (h .«block_count») (h .«interval_count») ≤ length (now out))
         ⌝ }
     ensures { λ _.
         ⌜
-        now (out .exit) ≡ over (saved (table h (arrays (now (tops .entry)) (now (ends .entry)) (now (blocks .entry)) []))) (now (out .entry))
+        now (out .exit) ≡ over (savedOf (table h (arrays (now (tops .entry)) (now (ends .entry)) (now (blocks .entry)) []))) (now (out .entry))
         ⌝ }
 {
     let block_count = h.block_count as usize;
@@ -64,4 +69,25 @@ pub fn write_saved(h: Header, tops: &[u32], ends: &[u32], blocks: &[u32], out: &
     put_each(tops, block_count, out, 12);
     put_numbers(ends, interval_count, out, ends_at);
     put_numbers(blocks, interval_count, out, blocks_at);
+}
+
+// The saved form into a buffer, or 21 where that is shorter.
+pub fn saved(h: Header, tops: &[u32], ends: &[u32], blocks: &[u32], buffer: &mut [u8]) -> SaveReply
+    requires { ⌜ SpansFormed h (now tops) (now ends) (now blocks) ⌝ }
+    ensures { λ r. ⌜ r ≡ saveAnswer (first (saveTests h (now (buffer .entry)))) h ⌝ }
+    ensures { λ _.
+        ⌜
+        now (buffer .exit) ≡ saveAfter (first (saveTests h (now (buffer .entry))))
+        (table h (arrays (now (tops .entry)) (now (ends .entry)) (now (blocks .entry)) [])) (now (buffer .entry))
+        ⌝ }
+{
+    let length = 12 + 4 * h.block_count + 8 * h.interval_count;
+    if buffer.len() < length as usize {
+        return SaveReply {
+            refusal: 21,
+            length: 0,
+        };
+    }
+    write_saved(h, tops, ends, blocks, buffer);
+    SaveReply { refusal: 0, length }
 }

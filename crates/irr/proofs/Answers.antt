@@ -1,30 +1,29 @@
 -- Laws of the calls' replies: what a refusal by the table's tests, or by the tests after them, makes of each. Assumes nothing.
 use Prim.Native.Nat.{ℕ, _+_, _*_, _≤_, _<_}
 use mathlib.Core.Path.{_≡_, refl, sym, _∙_, ap}
-use mathlib.Core.Bool.{Bool, true, false}
-use mathlib.Core.List.{List, [], _∷_, _++_}
-use native.Mathlib.Omega.{arith}
+use mathlib.Core.Bool.{true, false}
+use mathlib.Core.List.{List, [], _++_}
 use lib.ListN.{length}
 use borrow.Author.Tests.{lt-ltb, le-ltb}
 use Rattle.model.specs.Basics.{if_then_else_}
-use Rattle.model.specs.Limits.{maxCapacity}
-use Rattle.model.specs.Table.{Shape, Table, Arrays, arrays, table, header, over, written}
-use Rattle.model.specs.Refusal.{first, overfills, outside, headerOutside, arraysShort, capacityOutside, roomShort, resultShort}
+use Rattle.model.specs.Table.{Shape, Table, Arrays, arrays, table, header, over}
+use Rattle.model.specs.Refusal.{first, headerOutside, arraysShort, roomShort, resultShort}
 use Rattle.model.specs.Place.{places}
 use Rattle.model.specs.Search.{placeAt}
-use Rattle.model.specs.Sound.{Formed}
 use Rattle.model.specs.Initial.{initial}
-use Rattle.model.specs.Saved.{saved, savedLength, loadedHeader, loadedArrays}
-use Rattle.model.specs.Calls.{answer, noHeader, tableTests, sizeTests, freshTests, tableReply, arraysAfter, initialRefusal, initialReply}
+use Rattle.model.specs.Saved.{loadedHeader, loadedArrays}
+use Rattle.model.specs.Calls.{answer, noHeader, tableTests, tableReply, arraysAfter, initialRefusal, initialReply}
 use Rattle.model.specs.Calls.{initialArrays, saveTests, saveRefusal, saveReply, saveBytes, loadTests, loadRefusal, loadAnswer}
 use Rattle.model.specs.Calls.{loadReply, loadArrays, placeAnswer, placeTests, placeReply, findAnswer, findTests, findReply}
 use Rattle.model.specs.Calls.{binSizeAnswer, binSizeTests, binSizeReply, placesTests, placesRefusal, placesReply, placesAfter}
 use Rattle.model.specs.Calls.{sheetTests, sheetRefusal, sheetAnswer, sheetAfter, sheetReply, sheetBytes}
 use Rattle.model.specs.Sheet.{sheet}
 use Rattle.model.specs.declared.table.Header.{Header}
-use Rattle.model.specs.declared.reply.TableReply.{TableReply}
+use Rattle.model.specs.declared.reply.SaveReply.{SaveReply}
 use Rattle.model.specs.declared.reply.SheetReply.{SheetReply}
-use Rattle.model.proofs.Refusals.{first-here, first-skip, first-found, first-after, accepted, refused}
+use Rattle.model.proofs.Refusals.{first-here, first-skip, refused}
+use Rattle.fresh.specs.Fresh.{freshRefusal}
+use Rattle.file_save.specs.Saving.{saveAnswer, saveAfter}
 use Rattle.file_judged.specs.Loading.{loadedOver}
 use Rattle.model.proofs.Bytes.{saved-same}
 use Rattle.model.proofs.Sheets.{sheet-same}
@@ -88,56 +87,23 @@ module _ (h : Header) (a : Arrays) (xs out : List ℕ) where
 
 -- A CALL THAT WRITES A TABLE
 
--- a reply that refuses by n, where n is k
-pub refused-by
-    : (n k : ℕ) (z : TableReply) → z ≡ record { refusal = n; moved = 0; header = noHeader } → n ≡ k
-    → z ≡ record { refusal = k; moved = 0; header = noHeader }
-refused-by n k z e same = e ∙ ap (λ r. record { refusal = r; moved = 0; header = noHeader }) same
-
--- the sizes asked for are refused by rules 1 and 2, or by 31 after them
-pub fresh-sizes : (s : Shape) (p r : ℕ) → r ≡ first (sizeTests s) → (r ≡ 0 → ⊥) → r ≡ first (freshTests s p)
-unfolding freshTests
-fresh-sizes s p r e n = e ∙ sym (first-found (sizeTests s) _ (λ z. n (e ∙ z)))
-
-pub fresh-overfull
-    : (s : Shape) (p : ℕ) → first (sizeTests s) ≡ 0 → (w : Bool) → w ≡ overfills p s → first ((31, w) ∷ []) ≡ first (freshTests s p)
-unfolding freshTests sizeTests
-fresh-overfull s p z w e = ap (λ b. first ((31, b) ∷ [])) e ∙ sym (first-after (sizeTests s) _ (omega arith) z)
-
 module _ (s : Shape) (p : ℕ) (out : Arrays) where
-  -- an initial call is refused by the room lent, by its capacity, or by the sizes asked for
-  pub initial-short : roomShort out ≡ true → 21 ≡ initialRefusal s p out
-  unfolding initialRefusal
-  initial-short h = sym (first-here (21, roomShort out) _ h)
+  -- an initial call is refused by the room lent
+  pub initial-short
+      : roomShort out ≡ true
+      → (record { refusal = 21; moved = 0; header = noHeader } ≡ initialReply s p out) × (out ≡ initialArrays s p out)
+  unfolding initialReply initialArrays initialRefusal tableReply arraysAfter answer if_then_else_ first
+  initial-short w = (rw w, rw w)
 
-  pub initial-outside : roomShort out ≡ false → outside maxCapacity p ≡ true → 30 ≡ initialRefusal s p out
-  unfolding initialRefusal capacityOutside
-  initial-outside h e = sym (first-skip (21, roomShort out) _ h ∙ first-here (30, capacityOutside p) (freshTests s p) e)
-
-  pub initial-sizes
-      : (r : ℕ) → roomShort out ≡ false → outside maxCapacity p ≡ false → r ≡ first (freshTests s p) → r ≡ initialRefusal s p out
-  unfolding initialRefusal capacityOutside
-  initial-sizes r h c e =
-      e ∙ sym (first-skip (21, roomShort out) _ h ∙ first-skip (30, capacityOutside p) (freshTests s p) c)
-
-  pub initial-refused
-      : (r : ℕ) → r ≡ initialRefusal s p out → (r ≡ 0 → ⊥)
-      → (record { refusal = r; moved = 0; header = noHeader } ≡ initialReply s p out) × (out ≡ initialArrays s p out)
-  unfolding initialReply tableReply initialArrays arraysAfter
-  initial-refused r e n = (rw (← e) (sym (refused r _ _ n)), rw (← e) (sym (refused r _ _ n)))
-
-  pub initial-accepted
-      : (r : ℕ) → r ≡ initialRefusal s p out → r ≡ 0
-      → (record {
-        refusal = 0;
-        moved = 0;
-        header = record { buckets = s .buckets; capacity = p; «block_count» = 1; «interval_count» = 1 };
-      }
-      ≡ initialReply s p out)
-      × (written (initial s p) out ≡ initialArrays s p out)
-  unfolding initialReply tableReply initialArrays arraysAfter header initial
-  initial-accepted r e z =
-      (sym (accepted (initialRefusal s p out) _ _ (sym e ∙ z)), sym (accepted (initialRefusal s p out) _ _ (sym e ∙ z)))
+  -- with room, the tests after that answer
+  pub initial-later
+      : roomShort out ≡ false
+      → (tableReply (freshRefusal s p) 0 (initial s p) ≡ initialReply s p out)
+      × (arraysAfter (freshRefusal s p) (initial s p) out ≡ initialArrays s p out)
+  unfolding initialReply initialArrays initialRefusal
+  initial-later w =
+      let same : freshRefusal s p ≡ initialRefusal s p out = sym (first-skip (21, roomShort out) _ w) in
+      (ap (λ r. tableReply r 0 (initial s p)) same, ap (λ r. arraysAfter r (initial s p) out) same)
 
 -- SAVING
 
@@ -149,30 +115,22 @@ module _ (h : Header) (a : Arrays) (r : ℕ) (e : r ≡ first (tableTests h a)) 
   save-refused n =
       (rw (← stands h a r e _ n) (sym (refused r _ _ n)), rw (← stands h a r e _ n) (sym (refused r _ _ n)))
 
-  save-next : r ≡ 0 → saveRefusal h a buffer ≡ first (saveTests h buffer)
-  unfolding saveRefusal saveTests
-  save-next z = sym (passed h a r e _ z)
-
-  -- refused by the buffer's length
-  pub save-short
-      : r ≡ 0 → length buffer < savedLength (h .«block_count») (h .«interval_count»)
-      → (record { refusal = 21; length = 0 } ≡ saveReply h a buffer) × (buffer ≡ saveBytes h a buffer)
-  unfolding saveReply saveBytes saveTests answer if_then_else_ first
-  save-short z l = (
-    rw (save-next z, lt-ltb (length buffer) (savedLength (h .«block_count») (h .«interval_count»)) l),
-    rw (save-next z, lt-ltb (length buffer) (savedLength (h .«block_count») (h .«interval_count»)) l),
-  )
-
-  -- accepted
-  pub save-accepted
-      : (n : ℕ) → r ≡ 0 → n ≡ savedLength (h .«block_count») (h .«interval_count») → n ≤ length buffer
-      → (record { refusal = 0; length = n } ≡ saveReply h a buffer) × (over (saved (table h a)) buffer ≡ saveBytes h a buffer)
-  unfolding saveReply saveBytes saveTests answer if_then_else_ first
-  save-accepted n z d l =
-      let long : savedLength (h .«block_count») (h .«interval_count») ≤ length buffer = omega arith in (
-        rw (save-next z, le-ltb (length buffer) (savedLength (h .«block_count») (h .«interval_count»)) long, d),
-        rw (save-next z, le-ltb (length buffer) (savedLength (h .«block_count») (h .«interval_count»)) long),
-      )
+-- no adjustment is in it
+pub save-saved
+    : (h : Header) (t e b c : List ℕ) (r : ℕ) → r ≡ first (tableTests h (arrays t e b c)) → r ≡ 0
+    → (buffer out : List ℕ) (v : SaveReply) → v ≡ saveAnswer (first (saveTests h buffer)) h
+    → out ≡ saveAfter (first (saveTests h buffer)) (table h (arrays t e b [])) buffer
+    → (v ≡ saveReply h (arrays t e b c) buffer) × (out ≡ saveBytes h (arrays t e b c) buffer)
+unfolding saveReply saveBytes saveRefusal
+save-saved h t e b c r f z buffer out v p q =
+    let tests = passed h (arrays t e b c) r f (saveTests h buffer) z in
+    let s = checked h (arrays t e b c) r f z in
+    let same = saved-same h t e b [] c (record { tops = s .topsLong; ends = s .endsLong; blocks = s .blocksLong }) in (
+      p ∙ ap (λ n. saveAnswer n h) tests,
+      q
+          ∙ ap (λ (l : List ℕ). answer (first (saveTests h buffer)) (over l buffer) buffer) same
+          ∙ ap (λ n. saveAfter n (table h (arrays t e b c)) buffer) tests,
+    )
 
 -- LOADING
 
@@ -199,14 +157,6 @@ module _ (f : List ℕ) (p : ℕ) (out : Arrays) where
   load-later w =
       let same : first (loadTests f p) ≡ loadRefusal f p out = load-tests (first (loadTests f p)) w refl in
       (ap (λ r. loadAnswer r (loadedHeader f p)) same, ap (λ r. arraysAfter r (table (loadedHeader f p) (loadedArrays f p)) out) same)
-
--- the saved form does not read the adjustments
-pub save-written
-    : (h : Header) (t e b c x : List ℕ) → Formed h (arrays t e b c)
-    → over (saved (table h (arrays t e b []))) x ≡ over (saved (table h (arrays t e b c))) x
-save-written h t e b c x s =
-    ap (λ f. over f x)
-    (saved-same h t e b [] c (record { tops = s .topsLong; ends = s .endsLong; blocks = s .blocksLong }))
 
 -- THE RACK SHEET
 

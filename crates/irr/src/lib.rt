@@ -23,7 +23,6 @@ ghost use Rattle.model.specs.Calls.{
   sheetReply,
   sheetBytes,
 };
-use model::limits::MAX_CAPACITY;
 use model::reply::BinSizeReply;
 use model::reply::FindReply;
 use model::reply::LoadReply;
@@ -53,27 +52,7 @@ pub fn initial(
     if sizes::room_short(tops, ends, blocks, adjustments) {
         return sizes::refused_table(21);
     }
-    if sizes::is_outside(MAX_CAPACITY, capacity) {
-        return sizes::refused_table(30);
-    }
-    let wrong = sizes::size_refusal(buckets, bins);
-    if wrong != 0 {
-        return sizes::refused_table(wrong);
-    }
-    if sizes::overfull(capacity, buckets, bins) {
-        return sizes::refused_table(31);
-    }
-    sizes::write_initial(buckets, bins, tops, ends, blocks, adjustments);
-    TableReply {
-        refusal: 0,
-        moved: 0,
-        header: Header {
-            buckets,
-            capacity,
-            block_count: 1,
-            interval_count: 1,
-        },
-    }
+    fresh::mapped(buckets, bins, capacity, tops, ends, blocks, adjustments)
 }
 
 // A growth: writes the table of `buckets` in `bins` that follows the lent one to four other arrays.
@@ -281,15 +260,7 @@ pub fn save(
     if refusal != 0 {
         return SaveReply { refusal, length: 0 };
     }
-    let length = 12 + 4 * header.block_count + 8 * header.interval_count;
-    if buffer.len() < length as usize {
-        return SaveReply {
-            refusal: 21,
-            length: 0,
-        };
-    }
-    file_save::write_saved(header, tops, ends, blocks, buffer);
-    SaveReply { refusal: 0, length }
+    file_save::saved(header, tops, ends, blocks, buffer)
 }
 
 // The table of a saved map, with the given capacity, written to the four arrays; the adjustments are worked out.
