@@ -1,5 +1,1 @@
-pub mod Going
-pub mod Folding
-pub mod Receiving
 pub mod Turning
-pub mod Placing

@@ -1,3 +1,1 @@
-pub mod Standing
 pub mod Machine
-pub mod Claims

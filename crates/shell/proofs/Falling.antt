@@ -7,11 +7,12 @@ use native.Mathlib.Omega.{arith}
 use lib.ListN.{length, take, length-append}
 use lib.Seq.{length-take-le}
 use Rattle.console.specs.Rack.{Rack}
-use Rattle.machine.specs.Standing.{Standing, due, Goes, Turned}
-use Rattle.machine.specs.Machine.{stands, bytesOf, Rests, Ready, Turns}
+use Rattle.standing.specs.Standing.{Standing, due, Goes, Turned}
+use Rattle.buffers.specs.Machine.{stands, bytesOf, Rests, Ready}
+use Rattle.machine.specs.Machine.{Turns}
 use Rattle.machine.specs.declared.After.{After}
-use Rattle.machine.specs.declared.Machine.{Machine}
-use Rattle.machine.proofs.Going.{goes-none, goes-then}
+use Rattle.buffers.specs.declared.Machine.{Machine}
+use Rattle.standing.proofs.Going.{goes-none, goes-then}
 use Rattle.streams.specs.Streams.{Logged}
 use Rattle.shell.specs.Shell.{Worked}
 use Rattle.streams.proofs.Logging.{logged-none, logged-more}

@@ -10,10 +10,10 @@ use lib.ListN.{length, take, drop, length-append, length-drop}
 use lib.Seq.{length-take-le}
 use Rattle.model.specs.Console.{output}
 use Rattle.console.specs.Rack.{Rack}
-use Rattle.machine.specs.Standing.{Standing, beginning, due, Goes, Idle, received}
-use Rattle.machine.specs.Machine.{stands, bytesOf, Rests}
-use Rattle.machine.specs.declared.Machine.{Machine}
-use Rattle.machine.proofs.Folding.{ended-gone, due-closed, ended-closed, due-none, due-received, due-beginning}
+use Rattle.standing.specs.Standing.{Standing, beginning, due, Goes, Idle, received}
+use Rattle.buffers.specs.Machine.{stands, bytesOf, Rests}
+use Rattle.buffers.specs.declared.Machine.{Machine}
+use Rattle.standing.proofs.Folding.{ended-gone, due-closed, ended-closed, due-none, due-received, due-beginning}
 use Rattle.streams.specs.Streams.{Logged}
 use Rattle.shell.specs.Shell.{Ends, Ran}
 use Rattle.shell.specs.declared.End.{End}

@@ -7,9 +7,9 @@ use lib.ListN.{length}
 use Rattle.model.specs.Lent.{Lents}
 use Rattle.model.specs.Console.{output}
 use Rattle.console.specs.Rack.{Rack, rackGiven, rackLeft}
-use Rattle.machine.specs.Standing.{Goes}
-use Rattle.machine.specs.Machine.{stands, bytesOf, Rests, Ready}
-use Rattle.machine.specs.declared.Machine.{Machine}
+use Rattle.standing.specs.Standing.{Goes}
+use Rattle.buffers.specs.Machine.{stands, bytesOf, Rests, Ready}
+use Rattle.buffers.specs.declared.Machine.{Machine}
 use Rattle.streams.specs.Streams.{Logged}
 use Rattle.shell.specs.declared.Done.{Done}
 use Rattle.shell.specs.declared.End.{End}

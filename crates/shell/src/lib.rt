@@ -1,11 +1,11 @@
 // The program around the machine: it reads, lets the machine work, and writes. Logs, and the places reached in them, are named only
 // to hand them on (tools/logs), so that the program does the same whatever logs it is lent.
-use machine::BLOCK;
-use machine::Machine;
-use machine::NUMBERS;
-use machine::OUT;
-use machine::receive;
-use machine::start;
+use buffers::BLOCK;
+use buffers::Machine;
+use buffers::NUMBERS;
+use buffers::OUT;
+use buffers::receive;
+use buffers::start;
 use machine::turn;
 use model::limits::BLOCKS;
 use model::limits::INTERVALS;
@@ -17,7 +17,7 @@ ghost use Prim.Native.Nat.{_≤_};
 ghost use lib.ListN.{length};
 ghost use Rattle.model.specs.Lent.{arraysNow};
 ghost use Rattle.model.specs.Refusal.{roomShort};
-ghost use Rattle.machine.specs.Machine.{ReadyNow};
+ghost use Rattle.buffers.specs.Machine.{ReadyNow};
 ghost use Rattle.shell.specs.Shell.{Works, Runs};
 
 // After the turns over a block: the machine, the place reached in the log, and whether a write failed, which leaves the rest undone.

@@ -6,8 +6,9 @@ use native.Mathlib.Omega.{arith}
 use lib.ListN.{length}
 use Rattle.model.specs.Table.{arrays}
 use Rattle.console.specs.Rack.{rack}
-use Rattle.machine.specs.Machine.{Went}
-use Rattle.machine.proofs.Turning.{went-none, went-then, end-within, line-none, line-went, answers-done, answers-more}
+use Rattle.wheres.specs.Wheres.{Went}
+use Rattle.wheres.proofs.Lines.{went-none, went-then, end-within, line-none, line-went}
+use Rattle.machine.proofs.Turning.{answers-done, answers-more}
 use Rattle.machine.proofs.answer.Statement.{statement}
 use Rattle.machine.proofs.answer.Tie as tie
 

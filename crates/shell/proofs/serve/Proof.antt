@@ -5,7 +5,7 @@ use mathlib.Core.Path.{_∙_}
 use native.Mathlib.Omega.{arith}
 use Rattle.model.specs.Table.{arrays}
 use Rattle.console.specs.Rack.{rack}
-use Rattle.machine.specs.Machine.{stands, bytesOf, Rests, Ready}
+use Rattle.buffers.specs.Machine.{stands, bytesOf, Rests, Ready}
 use Rattle.streams.proofs.Logging.{logged-length, logged-place}
 use Rattle.shell.proofs.Falling.{rests-read, ready-read}
 use Rattle.shell.proofs.Running.{Going, going-none, rests-idle, came-length, went-on, going-spent, going-on, going-whole, going-closed}

@@ -4,7 +4,7 @@ use mathlib.Core.Path.{_∙_}
 use mathlib.Core.Bool.{true, false, true≢false, false≢true}
 use Rattle.model.specs.Table.{arrays}
 use Rattle.console.specs.Rack.{rack}
-use Rattle.machine.specs.Machine.{stands, bytesOf}
+use Rattle.buffers.specs.Machine.{stands, bytesOf}
 use Rattle.streams.proofs.Logging.{logged-length, logged-place}
 use Rattle.shell.proofs.Falling as falling
 use Rattle.shell.proofs.work.Statement.{statement}

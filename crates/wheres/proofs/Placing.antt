@@ -19,10 +19,11 @@ use Rattle.print.specs.Numbers.{lineRoom}
 use Rattle.console.specs.Rack.{Rack, rack, held, answerTo, Served, whereAnswer}
 use Rattle.console.proofs.Serving.{shown-short}
 use Rattle.console.proofs.Wheres.{where-next, where-answer, where-lists-none}
-use Rattle.machine.specs.Machine.{Sane, Went, onTo, Shows, Places}
-use Rattle.machine.specs.declared.Machine.{Machine}
-use Rattle.machine.specs.declared.wheres.Spot.{Spot}
-use Rattle.machine.proofs.Turning.{went-none, went-then, line-went}
+use Rattle.buffers.specs.Machine.{Sane}
+use Rattle.buffers.specs.declared.Machine.{Machine}
+use Rattle.wheres.specs.Wheres.{Went, onTo, Shows, Places}
+use Rattle.wheres.specs.declared.Spot.{Spot}
+use Rattle.wheres.proofs.Lines.{went-none, went-then, line-went}
 
 -- ONE LINE
 

@@ -14,8 +14,8 @@ use Rattle.lines.specs.Words.{upToFeed}
 use Rattle.lines.proofs.Cutting.{lines-on, lines-last}
 use Rattle.session.specs.Maps.{listed}
 use Rattle.session.proofs.Spoken.{unreadable-refused}
-use Rattle.machine.specs.Standing.{Standing, beginning, due, Goes, Idle, heard, received}
-use Rattle.machine.specs.Claims.{Pieces, turn, read, close, stop, OutputWhole}
+use Rattle.standing.specs.Standing.{Standing, beginning, due, Goes, Idle, heard, received}
+use Rattle.standing.specs.Claims.{Pieces, turn, read, close, stop, OutputWhole}
 
 -- THE END OF THE INPUT
 

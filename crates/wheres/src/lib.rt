@@ -1,7 +1,7 @@
 // The `where` lines of a block that stand one behind the other: they change no table, so they are answered without the session's state.
-use crate::LAST;
-use crate::Machine;
-use crate::OUT;
+use buffers::LAST;
+use buffers::Machine;
+use buffers::OUT;
 use console::step::put_where;
 use lines::asked::Asked;
 use lines::asked::where_at;
@@ -14,7 +14,8 @@ ghost use mathlib.Core.Bool.{false};
 ghost use Prim.Native.Nat.{_≤_};
 ghost use lib.ListN.{length};
 ghost use Rattle.model.specs.Lent.{LentFormed};
-ghost use Rattle.machine.specs.Machine.{SaneNow, AnswersPlaces, AnswersWheres};
+ghost use Rattle.buffers.specs.Machine.{SaneNow};
+ghost use Rattle.wheres.specs.Wheres.{AnswersPlaces, AnswersWheres};
 
 // The place of the next line of a block, and how many bytes are in the buffer.
 pub struct Spot {

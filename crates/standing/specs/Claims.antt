@@ -5,7 +5,7 @@ use mathlib.Core.Bool.{Bool, true, false}
 use mathlib.Core.List.{List, [], _∷_}
 use Rattle.model.specs.Basics.{joined}
 use Rattle.model.specs.Console.{output}
-use Rattle.machine.specs.Standing.{Standing, beginning, Idle, Turned, received}
+use Rattle.standing.specs.Standing.{Standing, beginning, Idle, Turned, received}
 
 -- From a standing on, with the input still going or ended, and with the blocks that are still to be read: the pieces that are put.
 -- A turn puts a piece; a block is read; at the end of the input, where nothing is left to do, an unfinished line is ended; and

@@ -16,7 +16,7 @@ use Rattle.lines.specs.Words.{upToFeed}
 use Rattle.lines.proofs.Cutting.{lines-cut, front-unfinished, lines-on, lines-last, enough, front-enough}
 use Rattle.session.specs.Maps.{listed}
 use Rattle.console.proofs.Rows.{pages-whole}
-use Rattle.machine.specs.Standing.{Standing, due, ending, Goes}
+use Rattle.standing.specs.Standing.{Standing, due, ending, Goes}
 
 pub goes-none : {put : List ℕ} {s : Standing} → Goes put s put s
 goes-none = record { text = λ more. refl; session = λ more. refl }

@@ -16,9 +16,9 @@ use Rattle.session.specs.Maps.{isEmpty, isGrown, sessionAt, session}
 use Rattle.session.specs.declared.state.Stage.the-variants.{Empty}
 use Rattle.print.proofs.Stores.{take-next}
 use Rattle.console.specs.Rack.{rack, held}
-use Rattle.machine.specs.Standing.{heard}
-use Rattle.machine.specs.Machine.{keptBytes, stands, bytesOf, Begins, Receives}
-use Rattle.machine.specs.declared.Machine.{Machine}
+use Rattle.standing.specs.Standing.{heard}
+use Rattle.buffers.specs.Machine.{keptBytes, stands, bytesOf, Begins, Receives}
+use Rattle.buffers.specs.declared.Machine.{Machine}
 
 -- a machine that begins
 pub begins

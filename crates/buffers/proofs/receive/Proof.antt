@@ -1,9 +1,9 @@
--- `machine::receive` meets its contract. Assumes nothing.
+-- `buffers::receive` meets its contract. Assumes nothing.
 use native.Mathlib.Omega.{arith}
-use Rattle.machine.proofs.Receiving.{receives-some, receives-feed, receives-none}
+use Rattle.buffers.proofs.Receiving.{receives-some, receives-feed, receives-none}
 use borrow.Author.Needs.{needs}
-use Rattle.machine.proofs.receive.Statement.{statement}
-use Rattle.machine.proofs.receive.Tie as tie
+use Rattle.buffers.proofs.receive.Statement.{statement}
+use Rattle.buffers.proofs.receive.Tie as tie
 
 add-m : tie.Need-add-m
 add-m c = search needs

@@ -1,11 +1,11 @@
--- `machine::wheres::answer_wheres` meets its contract: another line, no map, the map in the second table, or in the first. Assumes nothing.
+-- `wheres::answer_wheres` meets its contract: another line, no map, the map in the second table, or in the first. Assumes nothing.
 use mathlib.Core.Path.{refl, sym, _∙_}
 use Rattle.console.proofs.Serving.{first-held, second-held}
-use Rattle.machine.proofs.Turning.{went-none}
-use Rattle.machine.proofs.Placing.{map-formed, map-shows}
+use Rattle.wheres.proofs.Lines.{went-none}
+use Rattle.wheres.proofs.Placing.{map-formed, map-shows}
 use borrow.Author.Needs.{needs}
-use Rattle.machine.proofs.wheres.answer_wheres.Statement.{statement}
-use Rattle.machine.proofs.wheres.answer_wheres.Tie as tie
+use Rattle.wheres.proofs.answer_wheres.Statement.{statement}
+use Rattle.wheres.proofs.answer_wheres.Tie as tie
 
 returns : tie.Need-returns
 returns c = let pre = c .before .before .pre in went-none _ _ _ _ _ (pre .1) (pre .0 .2) (pre .0 .1)

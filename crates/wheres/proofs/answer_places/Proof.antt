@@ -1,14 +1,14 @@
--- `machine::wheres::answer_places` meets its contract. The loop's invariant: the lines before the place are answered. Assumes nothing.
+-- `wheres::answer_places` meets its contract. The loop's invariant: the lines before the place are answered. Assumes nothing.
 use Prim.Native.Nat.{_-_}
 use mathlib.Core.Path.{refl}
 use native.Mathlib.Omega.{arith}
 use lib.ListN.{length}
 use borrow.Author.Needs.{needs}
 use Rattle.model.specs.Lent.{lent}
-use Rattle.machine.specs.Machine.{Places}
-use Rattle.machine.proofs.Placing.{asked-for, places-none, places-more}
-use Rattle.machine.proofs.wheres.answer_places.Statement.{statement}
-use Rattle.machine.proofs.wheres.answer_places.Tie as tie
+use Rattle.wheres.specs.Wheres.{Places}
+use Rattle.wheres.proofs.Placing.{asked-for, places-none, places-more}
+use Rattle.wheres.proofs.answer_places.Statement.{statement}
+use Rattle.wheres.proofs.answer_places.Tie as tie
 
 abbrev Inv-loop : tie.InvT-loop
 Inv-loop h tops ends blocks adjustments block from put out₀ line₀ at₀ out line at =

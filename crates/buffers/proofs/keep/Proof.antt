@@ -1,14 +1,14 @@
--- `machine::keep` meets its contract. The loop's invariant: the first bytes are at the front. Assumes nothing.
+-- `buffers::keep` meets its contract. The loop's invariant: the first bytes are at the front. Assumes nothing.
 use Prim.Native.Nat.{ℕ, _-_}
 use mathlib.Core.Path.{ap}
 use native.Mathlib.Omega.{arith}
 use Rattle.model.proofs.Entries.{put-length}
 use mathlib.Core.Logic.{inl, inr}
-use Rattle.machine.specs.Machine.{keptBytes}
-use Rattle.machine.specs.declared.Machine.{Machine}
-use Rattle.machine.proofs.Receiving.{Kept, kept-none, kept-more, kept-all}
-use Rattle.machine.proofs.keep.Statement.{statement}
-use Rattle.machine.proofs.keep.Tie as tie
+use Rattle.buffers.specs.Machine.{keptBytes}
+use Rattle.buffers.specs.declared.Machine.{Machine}
+use Rattle.buffers.proofs.Receiving.{Kept, kept-none, kept-more, kept-all}
+use Rattle.buffers.proofs.keep.Statement.{statement}
+use Rattle.buffers.proofs.keep.Tie as tie
 
 abbrev Inv-loop : tie.InvT-loop
 Inv-loop m block₀ from kept₀ block kept = Kept from (m .size) block₀ kept block
