@@ -1,28 +1,15 @@
--- A turn of the machine and its parts. Assumes nothing.
-use Prim.Native.Nat.{ℕ, _+_, _≤_, _<_}
+-- A turn of the machine. Assumes nothing.
+use Prim.Native.Nat.{ℕ, _≤_}
 use mathlib.Core.Path.{_≡_}
-use mathlib.Core.Bool.{true, false}
+use mathlib.Core.Bool.{false}
 use mathlib.Core.List.{List}
 use lib.ListN.{length, take}
 use Rattle.model.specs.Lent.{Lents}
 use Rattle.console.specs.Rack.{Rack, rackGiven, rackLeft}
-use Rattle.standing.specs.Standing.{Idle, Turned}
+use Rattle.standing.specs.Standing.{Turned}
 use Rattle.buffers.specs.Machine.{stands, bytesOf, Ready, Rests}
 use Rattle.buffers.specs.declared.Machine.{Machine}
-use Rattle.wheres.specs.Wheres.{Went}
-use Rattle.machine.specs.declared.After.{After}
-
--- a page of the list in progress, if there is one, put into the empty buffer; whatever is read
-pub record Pages (m : Machine) (k : Rack) (out : List ℕ) (r : After) (k′ : Rack) (out′ : List ℕ) : Type 0 where
-  pub went : (bytes : List ℕ) → m .from ≤ length bytes → Went m k bytes 0 out (r .machine) k′ (r .put) out′
-  pub done : r .more ≡ false → r .machine .listing ≡ false
-  pub more : r .more ≡ true → 0 < r .put
-
--- the lines of the bytes answered
-pub record Answers (m : Machine) (k : Rack) (bytes : List ℕ) (put : ℕ) (out : List ℕ) (r : After) (k′ : Rack) (out′ : List ℕ) : Type 0 where
-  pub went : Went m k bytes put out (r .machine) k′ (r .put) out′
-  pub done : r .more ≡ false → Idle (stands (r .machine) k′ bytes)
-  pub more : r .more ≡ true → m .from < r .machine .from + r .put
+use Rattle.pages.specs.declared.After.{After}
 
 -- a turn of the machine
 pub record Turns (m : Machine) (k : Rack) (block : List ℕ) (r : After) (k′ : Rack) (block′ out : List ℕ) : Type 0 where
@@ -33,17 +20,6 @@ pub record Turns (m : Machine) (k : Rack) (block : List ℕ) (r : After) (k′ :
   pub rests : r .more ≡ false → Rests (r .machine) block′
 
 -- the same of lent arrays
-abbrev pub PutsPage : Machine → Lents → Lents → Lents → Lents → Lents → Lents → Lents → Lents → Lents → After → Type 0
-PutsPage m t e b a t₂ e₂ b₂ a₂ out r =
-    Pages m (rackGiven (m .state) t e b a t₂ e₂ b₂ a₂) (out .entry .now) r
-    (rackLeft (r .machine .state) t e b a t₂ e₂ b₂ a₂) (out .exit .now)
-
-abbrev pub AnswersLines
-    : Machine → Lents → Lents → Lents → Lents → Lents → Lents → Lents → Lents → Lents → ℕ → Lents → After → Type 0
-AnswersLines m block t e b a t₂ e₂ b₂ a₂ put out r =
-    Answers m (rackGiven (m .state) t e b a t₂ e₂ b₂ a₂) (block .entry .now) put (out .entry .now) r
-    (rackLeft (r .machine .state) t e b a t₂ e₂ b₂ a₂) (out .exit .now)
-
 abbrev pub MakesTurn : Machine → Lents → Lents → Lents → Lents → Lents → Lents → Lents → Lents → Lents → Lents → After → Type 0
 MakesTurn m block t e b a t₂ e₂ b₂ a₂ out r =
     Turns m (rackGiven (m .state) t e b a t₂ e₂ b₂ a₂) (block .entry .now) r

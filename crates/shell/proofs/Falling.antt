@@ -10,7 +10,7 @@ use Rattle.console.specs.Rack.{Rack}
 use Rattle.standing.specs.Standing.{Standing, due, Goes, Turned}
 use Rattle.buffers.specs.Machine.{stands, bytesOf, Rests, Ready}
 use Rattle.machine.specs.Machine.{Turns}
-use Rattle.machine.specs.declared.After.{After}
+use Rattle.pages.specs.declared.After.{After}
 use Rattle.buffers.specs.declared.Machine.{Machine}
 use Rattle.standing.proofs.Going.{goes-none, goes-then}
 use Rattle.streams.specs.Streams.{Logged}

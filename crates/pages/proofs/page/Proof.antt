@@ -1,9 +1,9 @@
--- `machine::page` meets its contract. Assumes nothing.
+-- `pages::page` meets its contract. Assumes nothing.
 use native.Mathlib.Omega.{arith}
 use borrow.Author.Tests.{ltb-true, ltb-false}
-use Rattle.machine.proofs.Turning.{page-row, paged, page-none}
-use Rattle.machine.proofs.page.Statement.{statement}
-use Rattle.machine.proofs.page.Tie as tie
+use Rattle.pages.proofs.Paging.{page-row, paged, page-none}
+use Rattle.pages.proofs.page.Statement.{statement}
+use Rattle.pages.proofs.page.Tie as tie
 
 list-requires : tie.Need-list-requires
 list-requires c κs =

@@ -1,4 +1,4 @@
--- `machine::answer` meets its contract. The loop's invariant: the machine has gone on, and no list is in progress. Assumes nothing.
+-- `answers::answer` meets its contract. The loop's invariant: the machine has gone on, and no list is in progress. Assumes nothing.
 use Prim.Native.Nat.{_-_}
 use mathlib.Core.Path.{_≡_, refl}
 use mathlib.Core.Bool.{false}
@@ -8,9 +8,9 @@ use Rattle.model.specs.Table.{arrays}
 use Rattle.console.specs.Rack.{rack}
 use Rattle.wheres.specs.Wheres.{Went}
 use Rattle.wheres.proofs.Lines.{went-none, went-then, end-within, line-none, line-went}
-use Rattle.machine.proofs.Turning.{answers-done, answers-more}
-use Rattle.machine.proofs.answer.Statement.{statement}
-use Rattle.machine.proofs.answer.Tie as tie
+use Rattle.answers.proofs.Answering.{answers-done, answers-more}
+use Rattle.answers.proofs.answer.Statement.{statement}
+use Rattle.answers.proofs.answer.Tie as tie
 
 abbrev Inv-loop : tie.InvT-loop
 Inv-loop m block t e b a t₂ e₂ b₂ a₂ put out at₀ m′ t′ e′ b′ a′ t₂′ e₂′ b₂′ a₂′ out′ at =
