@@ -1,5 +1,5 @@
-// The eleven calls for C, declared in include/irr.h: each is the call of `irr` of its name, with its contract. A slice is a pointer
-// and a length.
+// The twelve calls for C, declared in include/irr.h: each is the call of `irr` or `mover` of its name, with its contract. A slice is
+// a pointer and a length.
 ghost use mathlib.Core.Path.{_≡_};
 ghost use Rattle.model.specs.Lent.{given, left};
 ghost use Rattle.model.specs.Calls.{
@@ -23,7 +23,9 @@ ghost use Rattle.model.specs.Calls.{
   sheetBytes,
 };
 ghost use Rattle.model.specs.Table.{sizes};
+ghost use Rattle.mover.specs.Carry.{growth, carryReply, carryWords};
 use model::reply::BinSizeReply;
+use model::reply::CarryReply;
 use model::reply::FindReply;
 use model::reply::LoadReply;
 use model::reply::PlaceReply;
@@ -232,4 +234,37 @@ pub extern "C" fn irr_sheet(
     ensures { λ _. ⌜ now (buffer .exit) ≡ sheetBytes header (given tops ends blocks adjustments) (now (buffer .entry)) ⌝ }
 {
     irr::sheet(header, tops, ends, blocks, adjustments, buffer)
+}
+
+#[no_mangle]
+pub extern "C" fn irr_carry(
+    header: Header,
+    tops: &[u32],
+    ends: &[u32],
+    blocks: &[u32],
+    adjustments: &[u32],
+    buckets: u32,
+    bins: u32,
+    words: &mut [u32],
+    mark: u32,
+) -> CarryReply
+    ensures { λ r.
+        ⌜ r ≡ carryReply (growth header (given tops ends blocks adjustments) (sizes buckets bins)) (now (words .entry)) mark ⌝ }
+    ensures { λ _.
+        ⌜
+        now (words .exit)
+        ≡ carryWords (growth header (given tops ends blocks adjustments) (sizes buckets bins)) (now (words .entry)) mark
+        ⌝ }
+{
+    mover::carry(
+        header,
+        tops,
+        ends,
+        blocks,
+        adjustments,
+        buckets,
+        bins,
+        words,
+        mark,
+    )
 }

@@ -68,6 +68,11 @@ overfills-where p s = (
       (all-fails (λ y. not (overfull p (due s y))) (s .bins) (w .0) (w .1) (ap not (is-full p (due s (w .0)) (w .2)))),
 )
 
+-- where they do not, what each bin is due, plus 8, is within P
+pub due-within : (p : ℕ) (s : Shape) → overfills p s ≡ false → (y : ℕ) → y < s .bins → due s y + 8 ≤ p
+unfolding overfills
+due-within p s e y l = within p (due s y) (overfull-none p (due s) (s .bins) e y l)
+
 -- bins that hold as many
 overfull-ext
     : (p : ℕ) (f g : ℕ → ℕ) (n : ℕ) → ((y : ℕ) → y < n → f y ≡ g y) → someOverfull p f n ≡ someOverfull p g n
@@ -77,7 +82,7 @@ overfull-ext p f g n e = ap not (all-ext _ _ n (λ y l. ap (λ m. not (overfull 
 -- THE FIRST BIN
 
 -- no bin is due more than the first
-due-first : (s : Shape) (y : ℕ) → due s y ≤ due s 0
+pub due-first : (s : Shape) (y : ℕ) → due s y ≤ due s 0
 due-first s y =
     let r = s .buckets % s .bins in
     ⊎-elim

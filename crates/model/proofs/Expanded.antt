@@ -229,19 +229,28 @@ first-alike ts us vs n r ends e =
       | no z ↦ first-found ts vs z ∙ sym (first-found ts us z) ∙ e
     ]
 
--- the last test of a growth, and that of a move list, bring about 8 and 9 alone
-first-only : (k : ℕ) (b : Bool) (r : ℕ) → (r ≡ 0 → ⊥) → (r ≡ k → ⊥) → first ((k, b) ∷ []) ≡ r → ⊥
+-- a single test brings about its own number alone
+pub first-only : (k : ℕ) (b : Bool) (r : ℕ) → (r ≡ 0 → ⊥) → (r ≡ k → ⊥) → first ((k, b) ∷ []) ≡ r → ⊥
 first-only k b r none other e =
     ⊎-elim
     (λ t. other (sym e ∙ first-here (k, b) [] (t .0)))
     (λ f. none (sym e ∙ first-skip (k, b) [] (f .0) ∙ first-none))
     (bit-cases b)
 
+-- calls that test a table and a growth's sizes first are refused by those alike
+pub growth-alike
+    : (h : Header) (a : Arrays) (s : Shape) (us vs : List Test) (r : ℕ) → (first us ≡ r → first vs ≡ r)
+    → first (tableTests h a ++ (growthTests (table h a) s ++ us)) ≡ r
+    → first (tableTests h a ++ (growthTests (table h a) s ++ vs)) ≡ r
+growth-alike h a s us vs r ends =
+    first-alike (tableTests h a) _ _ (table-numbered h a) r
+    (first-alike (growthTests (table h a) s) us vs (growth-numbered (table h a) s) r ends)
+
 pub refused-alike : RefusedAlike
 unfolding expandRefusal relocationsRefusal orderTests tableTests
 refused-alike h a s out q r room none eight nine = (
-  λ e. alike _ _ (λ z. absurd (first-only 8 _ r none eight z)) (sym skip ∙ e),
-  λ e. skip ∙ alike _ _ (λ z. absurd (first-only 9 _ r none nine z)) e,
+  λ e. growth-alike h a s _ _ r (λ z. absurd (first-only 8 _ r none eight z)) (sym skip ∙ e),
+  λ e. skip ∙ growth-alike h a s _ _ r (λ z. absurd (first-only 9 _ r none nine z)) e,
 )
   where
     t : Table
@@ -249,10 +258,3 @@ refused-alike h a s out q r room none eight nine = (
 
     skip : expandRefusal h a s out ≡ first (tableTests h a ++ (growthTests t s ++ ((8, intervalsFull t s) ∷ [])))
     skip = first-skip (21, roomShort out) _ room
-
-    alike
-        : (us vs : List Test) → (first us ≡ r → first vs ≡ r)
-        → first (tableTests h a ++ (growthTests t s ++ us)) ≡ r → first (tableTests h a ++ (growthTests t s ++ vs)) ≡ r
-    alike us vs ends =
-        first-alike (tableTests h a) _ _ (table-numbered h a) r
-        (first-alike (growthTests t s) us vs (growth-numbered t s) r ends)

@@ -27,6 +27,7 @@ pub mod Growths
 pub mod Filled
 pub mod Drained
 pub mod Expanded
+pub mod Fits
 pub mod Walks
 pub mod Moves
 pub mod Totals

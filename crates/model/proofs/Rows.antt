@@ -2,14 +2,14 @@
 use Prim.Native.Nat.{ℕ, zero, suc, _+_, _-_, _/_, _%_, _≤_, _<_}
 use mathlib.Core.Path.{_≡_, refl, sym, _∙_, ap, ap₂}
 use mathlib.Core.Logic.{⊎-elim}
-use mathlib.Core.Bool.{Bool, true, false}
+use mathlib.Core.Bool.{Bool, true, false, false≢true}
 use mathlib.Core.List.{List, [], _∷_, _++_, append-nil, append-assoc}
 use native.Mathlib.Nat.{le-refl, le-of-lt, zero-add}
 use native.Mathlib.Omega.{arith}
 use lib.ListN.{length, getD, take, length-append}
-use lib.Seq.{getD-take}
+use lib.Seq.{getD-take, getD-at}
 use borrow.Author.Tests.{eq-eqb, ne-eqb}
-use Rattle.model.specs.Basics.{if_then_else_, from, joined, before}
+use Rattle.model.specs.Basics.{if_then_else_, sum, count, from, joined, before}
 use Rattle.model.specs.Limits.{label}
 use Rattle.model.specs.Table.{Shape, Interval, Table, Arrays, table, bins, shape, firstBin, blockBins}
 use Rattle.model.specs.Place.{blockOf, rank, bin, position, size}
@@ -91,6 +91,55 @@ module _ (t u : Table) where
       ∙ ap (λ l. rowsBelow t u m ++ l)
       (joined-one (rowIf t u) (row t u) m (e - m) (λ x b k. rw (other x b (omega arith))))
 
+-- what holds of m holds of all numbers from m up to m + 1
+only : {m : ℕ} {b : Bool} (f : ℕ → Bool) (x : ℕ) → m ≤ x → x < suc m → f m ≡ b → f x ≡ b
+only {m} f x l k e = let same : x ≡ m = omega arith in ap f same ∙ e
+
+-- ORDER NUMBERS
+
+module _ (t u : Table) where
+  -- the rows of the buckets below m are as many as the moved ones
+  pub rows-counted : (m : ℕ) → length (rowsBelow t u m) ≡ count (differs t u) m
+  unfolding joined from count sum
+  rows-counted zero = refl
+  rows-counted (suc m) =
+      let ih = rows-counted m in
+      ⊎-elim
+      (λ e.
+      omega (
+        arith,
+        ap length (rows-move t u m (suc m) (omega arith) (λ x b c. only (differs t u) x b c (e .0))),
+        length-append (rowsBelow t u m) (from (row t u) m (suc m - m)),
+        length-from (row t u) m (suc m - m),
+        e .1,
+      ))
+      (λ e.
+      omega (
+        arith,
+        ap length (rows-stay t u m (suc m) (omega arith) (λ x b c. only (differs t u) x b c (e .0))),
+        e .1,
+      ))
+      (bit-cases (differs t u m))
+
+  -- a moved bucket's row stands at its order number: the number of moved buckets below it
+  pub row-at
+      : (x : ℕ) → x < t .buckets → differs t u x ≡ true → getD (rows t u) (count (differs t u) x) [] ≡ row t u x
+  unfolding rows joined from rowIf if_then_else_
+  row-at x l e =
+      let whole : t .buckets ≡ suc x + (t .buckets - suc x) = omega arith in
+      let one : suc x - x ≡ 1 = omega arith in
+      let rest = joined (from (rowIf t u) (suc x) (t .buckets - suc x)) in
+      let here : rowsBelow t u (suc x) ≡ rowsBelow t u x ++ (row t u x ∷ []) =
+      rows-move t u x (suc x) (omega arith) (λ z b c. only (differs t u) z b c e)
+      ∙ ap (λ n. rowsBelow t u x ++ from (row t u) x n) one in
+      let split : rows t u ≡ rowsBelow t u x ++ (row t u x ∷ rest) =
+      ap (rowsBelow t u) whole
+      ∙ rows-more t u (suc x) (t .buckets - suc x)
+      ∙ ap (λ rs. rs ++ rest) here
+      ∙ append-assoc (rowsBelow t u x) (row t u x ∷ []) rest in
+      ap (λ rs. getD rs (count (differs t u) x) []) split
+      ∙ getD-at (rowsBelow t u x) (row t u x) rest [] (count (differs t u) x) (rows-counted x)
+
 -- A GROWTH BY WHICH SOME OLD BLOCK IS DUE LESS
 
 module _ (t : Table) (s : Shape) (w : Well t) (a : Accepted t s) (falls : someFall t s ≡ true) where
@@ -124,10 +173,6 @@ module _ (t : Table) (s : Shape) (w : Well t) (a : Accepted t s) (falls : someFa
       let block = drained-block x l ∙ e in
       let ranked = drained-rank x l ∙ ap (size (drainedBlock t s) x) e ∙ q in
       (rw (block, ranked, new-first, new-bins), rw (block, ranked, new-bins))
-
--- what holds of m holds of all numbers from m up to m + 1
-only : {m : ℕ} {b : Bool} (f : ℕ → Bool) (x : ℕ) → m ≤ x → x < suc m → f m ≡ b → f x ≡ b
-only {m} f x l k e = let same : x ≡ m = omega arith in ap f same ∙ e
 
 -- A SOUND TABLE AND AN ACCEPTED GROWTH
 
@@ -285,6 +330,20 @@ module _ (h : Header) (a : Arrays) (s : Shape) (formed : Formed h a) (ok : first
           size-next (drainedBlock (old h a) s) m (length (old h a .tops)) e,
         ))
         (below-or (size (blockOf (old h a)) m (blockOf (old h a) m)) (dueAfter (old h a) s (blockOf (old h a) m)))
+
+    -- a moved bucket is of the new block, and its rank there is its order number
+    pub moved-place
+        : (x : ℕ) → x < h .buckets → differs (old h a) (new h a s) x ≡ true
+        → (bin (new h a s) x ≡ bins (old h a) + count (differs (old h a) (new h a s)) x % (s .bins - bins (old h a)))
+        × (position (new h a s) x ≡ count (differs (old h a) (new h a s)) x / (s .bins - bins (old h a)) + label)
+    moved-place x l e =
+        ⊎-elim
+        (λ k. absurd (false≢true (sym (stays x l (kept x l k)) ∙ e)))
+        (λ k.
+        new-place (old h a) s (formed-well h a formed) (accepted (old h a) s ok) falls x _ (omega (arith, more))
+        (drained-moves (old h a) s x k)
+        (sym (rows-size x (omega arith)) ∙ rows-counted (old h a) (new h a s) x))
+        (below-or (size (blockOf (old h a)) x (blockOf (old h a) x)) (dueAfter (old h a) s (blockOf (old h a) x)))
 
     -- THE ROWS OF INTERVAL i, of which the buckets from p on move: those whose rank is not below the block's due
 

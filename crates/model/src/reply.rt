@@ -1,4 +1,4 @@
-// The replies of the eleven calls. `refusal` is document 01's number, or 0; in a refusal every other number is 0.
+// The replies of the twelve calls. `refusal` is document 01's number, or 0; in a refusal every other number is 0.
 use crate::table::Header;
 
 // initial and expand: the buckets moved, and the header of the table written
@@ -67,4 +67,12 @@ pub struct LoadReply {
 pub struct SheetReply {
     pub refusal: u32,
     pub length: u32,
+}
+
+// carry: the mark to store, and 1 where it had reached the total, so that no row was done
+#[repr(C)]
+pub struct CarryReply {
+    pub refusal: u32,
+    pub mark: u32,
+    pub finished: u32,
 }

@@ -1,0 +1,6 @@
+pub mod Copies
+pub mod Spots
+pub mod Replies
+pub mod Runs
+pub mod Alike
+pub mod Worked

@@ -1,0 +1,4 @@
+pub mod Carry
+pub mod Run
+pub mod Passed
+pub mod Claims
