@@ -4,8 +4,8 @@ use mathlib.Core.Path.{_≡_, refl, sym, _∙_, ap}
 use mathlib.Core.Logic.{⊎-elim}
 use mathlib.Core.List.{List, [], _∷_, _++_, append-nil}
 use native.Mathlib.Omega.{arith}
-use lib.ListN.{length, getD, take, drop, length-append, length-take, length-drop, drop-of-length-le}
-use lib.Seq.{drop-cons, take-nil, take-all, take-at, drop-at, take-append-le, take-append-add, drop-append-le, drop-append-add}
+use lib.ListN.{length, take, drop, length-append, length-take, length-drop, drop-of-length-le}
+use lib.Seq.{take-nil, take-all, take-at, drop-at, take-append-le, take-append-add, drop-append-le, drop-append-add}
 use Rattle.model.specs.Basics.{if_then_else_, from, joined}
 use Rattle.model.specs.Table.{Table, over}
 use Rattle.model.specs.Relocations.{row, rowIf, page}
@@ -161,14 +161,3 @@ pub page-from
     : (q n : ℕ) (f : ℕ → List ℕ) (i m : ℕ) → page q n (from f i m) ≡ from f (i + q) (min (n / 5) (m - q))
 unfolding page
 page-from q n f i m = ap (take (n / 5)) (drop-from f i m q) ∙ take-from f (i + q) (m - q) (n / 5)
-
--- a page of one row, in a buffer of five numbers
-pub page-one
-    : (q : ℕ) (rs : List (List ℕ)) (buffer : List ℕ) → Fives rs → q < length rs → length buffer ≡ 5
-    → over (joined (page q (length buffer) rs)) buffer ≡ getD rs q []
-unfolding page over joined
-page-one q rs buffer h l e =
-    let split = drop-cons rs q [] l in
-    let five : length (getD rs q []) ≡ 5 = (rw split at (fives-drop q rs h)) .0 in
-    rw (e, split, append-nil (getD rs q []), five)
-    (ap (λ xs. getD rs q [] ++ xs) (drop-of-length-le buffer {i = 5} (omega arith)) ∙ append-nil (getD rs q []))

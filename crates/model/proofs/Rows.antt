@@ -99,11 +99,11 @@ only {m} f x l k e = let same : x ≡ m = omega arith in ap f same ∙ e
 
 module _ (t u : Table) where
   -- the rows of the buckets below m are as many as the moved ones
-  pub rows-counted : (m : ℕ) → length (rowsBelow t u m) ≡ count (differs t u) m
+  pub rows-order : (m : ℕ) → length (rowsBelow t u m) ≡ count (differs t u) m
   unfolding joined from count sum
-  rows-counted zero = refl
-  rows-counted (suc m) =
-      let ih = rows-counted m in
+  rows-order zero = refl
+  rows-order (suc m) =
+      let ih = rows-order m in
       ⊎-elim
       (λ e.
       omega (
@@ -138,7 +138,7 @@ module _ (t u : Table) where
       ∙ ap (λ rs. rs ++ rest) here
       ∙ append-assoc (rowsBelow t u x) (row t u x ∷ []) rest in
       ap (λ rs. getD rs (count (differs t u) x) []) split
-      ∙ getD-at (rowsBelow t u x) (row t u x) rest [] (count (differs t u) x) (rows-counted x)
+      ∙ getD-at (rowsBelow t u x) (row t u x) rest [] (count (differs t u) x) (rows-order x)
 
 -- A GROWTH BY WHICH SOME OLD BLOCK IS DUE LESS
 
@@ -342,7 +342,7 @@ module _ (h : Header) (a : Arrays) (s : Shape) (formed : Formed h a) (ok : first
         (λ k.
         new-place (old h a) s (formed-well h a formed) (accepted (old h a) s ok) falls x _ (omega (arith, more))
         (drained-moves (old h a) s x k)
-        (sym (rows-size x (omega arith)) ∙ rows-counted (old h a) (new h a s) x))
+        (sym (rows-size x (omega arith)) ∙ rows-order (old h a) (new h a s) x))
         (below-or (size (blockOf (old h a)) x (blockOf (old h a) x)) (dueAfter (old h a) s (blockOf (old h a) x)))
 
     -- THE ROWS OF INTERVAL i, of which the buckets from p on move: those whose rank is not below the block's due
@@ -362,15 +362,34 @@ module _ (h : Header) (a : Arrays) (s : Shape) (formed : Formed h a) (ok : first
           let ranks = old-rank i x k (omega (arith, cut .after)) d in
           drained-moves (old h a) s x (omega (arith, ranks .1, cut .gone x c d, ap (dueAfter (old h a) s) (ranks .0)))
 
+      pub part-moves : (x : ℕ) → p ≤ x → x < getD (a .ends) i 0 → differs (old h a) (new h a s) x ≡ true
+      part-moves x c d = moves x (old-inside i x k (omega (arith, cut .after)) d) (part-gone x c d)
+
+      part-stays : (x : ℕ) → before (a .ends) i ≤ x → x < p → differs (old h a) (new h a s) x ≡ false
+      part-stays x c d = stays x (old-inside i x k c (omega (arith, cut .within))) (part-kept x c d)
+
       pub part-rows
           : rowsBelow (old h a) (new h a s) (getD (a .ends) i 0)
           ≡ rowsBelow (old h a) (new h a s) (before (a .ends) i) ++ from (row (old h a) (new h a s)) p (getD (a .ends) i 0 - p)
       part-rows =
-          rows-move (old h a) (new h a s) p (getD (a .ends) i 0) (cut .within)
-          (λ x c d. moves x (old-inside i x k (omega (arith, cut .after)) d) (part-gone x c d))
+          rows-move (old h a) (new h a s) p (getD (a .ends) i 0) (cut .within) part-moves
           ∙ ap (λ l. l ++ from (row (old h a) (new h a s)) p (getD (a .ends) i 0 - p))
-          (rows-stay (old h a) (new h a s) (before (a .ends) i) p (cut .after)
-          (λ x c d. stays x (old-inside i x k c (omega (arith, cut .within))) (part-kept x c d)))
+          (rows-stay (old h a) (new h a s) (before (a .ends) i) p (cut .after) part-stays)
+
+      -- so their order numbers go on from that of its start
+      pub part-order
+          : (x : ℕ) → p ≤ x → x ≤ getD (a .ends) i 0
+          → count (differs (old h a) (new h a s)) x ≡ count (differs (old h a) (new h a s)) (before (a .ends) i) + (x - p)
+      part-order x c d =
+          omega (
+            arith,
+            ap length (rows-move (old h a) (new h a s) p x c (λ z b e. part-moves z b (omega arith))),
+            ap length (rows-stay (old h a) (new h a s) (before (a .ends) i) p (cut .after) part-stays),
+            length-append (rowsBelow (old h a) (new h a s) p) (from (row (old h a) (new h a s)) p (x - p)),
+            length-from (row (old h a) (new h a s)) p (x - p),
+            rows-order (old h a) (new h a s) x,
+            rows-order (old h a) (new h a s) (before (a .ends) i),
+          )
 
       -- their ranks in the new block go on from w, the number of rows before the interval's
       part-rank

@@ -1,5 +1,5 @@
 -- Laws of one call: what each refusal makes of its reply and its words, and what an accepted call leaves. Assumes nothing.
-use Prim.Native.Nat.{ℕ, _+_, _*_, _≤_, _<_, min}
+use Prim.Native.Nat.{ℕ, _+_, _≤_, _<_, min}
 use mathlib.Core.Path.{_≡_, refl, sym, _∙_, ap}
 use mathlib.Core.Logic.{⊎-elim}
 use mathlib.Core.List.{List}
@@ -7,11 +7,11 @@ use native.Mathlib.Omega.{arith}
 use lib.ListN.{length, getD, set, length-set}
 use borrow.Author.Tests.{lt-ltb, le-ltb}
 use Rattle.model.specs.Basics.{if_then_else_}
-use Rattle.model.specs.Refusal.{first, orderPast}
+use Rattle.model.specs.Refusal.{first}
 use Rattle.model.specs.Calls.{tableTests, growthTests}
 use Rattle.model.specs.declared.reply.CarryReply.{CarryReply}
 use Rattle.model.proofs.Counts.{below-or}
-use Rattle.model.proofs.Refusals.{first-here, first-skip, first-found, first-after, accepted, refused}
+use Rattle.model.proofs.Refusals.{first-found, first-after, accepted, refused}
 use Rattle.model.proofs.Soundness.{growth-numbered}
 use Rattle.model.proofs.Checked.{stands, passed}
 use Rattle.mover.specs.Carry.{
@@ -22,7 +22,6 @@ use Rattle.mover.specs.Carry.{
   target,
   put,
   copied,
-  wordsShort,
   carryTests,
   carryRefusal,
   carryReply,
@@ -56,23 +55,12 @@ module _ (g : Growth) (ws : List ℕ) (m : ℕ) where
           ∙ sym (first-found (growthTests (oldTable g) (g .sizes)) _ (λ none. n (f ∙ none)))
           ∙ passed (g .header) (g .arrays) r e _ z
 
-      last : q ≡ 0 → first (carryTests g ws m) ≡ carryRefusal g ws m
+      -- by those of the words and the mark, after these; where they pass, it is accepted
+      pub by-last : q ≡ 0 → first (carryTests g ws m) ≡ carryRefusal g ws m
       unfolding carryRefusal
-      last none =
+      by-last none =
           sym (first-after (growthTests (oldTable g) (g .sizes)) _ (growth-numbered (oldTable g) (g .sizes)) (sym f ∙ none))
           ∙ passed (g .header) (g .arrays) r e _ z
-
-      -- by the length of the words, and by the mark
-      pub by-words : q ≡ 0 → length ws < g .sizes .bins * g .header .capacity → 40 ≡ carryRefusal g ws m
-      unfolding carryTests wordsShort
-      by-words none l = sym (first-here (40, wordsShort g ws) _ (lt-ltb _ _ l)) ∙ last none
-
-      pub by-mark
-          : q ≡ 0 → g .sizes .bins * g .header .capacity ≤ length ws → total g < m → 41 ≡ carryRefusal g ws m
-      unfolding carryTests wordsShort
-      by-mark none l k =
-          sym (first-skip (40, wordsShort g ws) _ (le-ltb _ _ l) ∙ first-here (41, orderPast (total g) m) _ (lt-ltb _ _ k))
-          ∙ last none
 
 -- ACCEPTED
 

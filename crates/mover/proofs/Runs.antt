@@ -42,7 +42,7 @@ use Rattle.mover.specs.Run.{
   cutMark,
 }
 use Rattle.mover.specs.Claims.{Moves, order, CarryOne, CarryNone, CarryMarks, CarryReads, CarryOn, CarryEnds, CutsReach}
-use Rattle.mover.specs.Passed.{Ready}
+use Rattle.mover.specs.Ready.{Ready}
 use Rattle.mover.proofs.Replies.{words-more, reply-more, words-end, reply-end, mark-after, words-long}
 use Rattle.mover.proofs.Copies.{copies, Apart, Near, near-put, near-copy, near-end, near-kept, near-done}
 use Rattle.mover.proofs.Spots.{

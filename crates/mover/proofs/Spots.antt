@@ -3,18 +3,17 @@ use Prim.Native.Nat.{ℕ, _+_, _-_, _*_, _/_, _%_, _≤_, _<_}
 use mathlib.Core.Path.{_≡_, sym, _∙_, ap, ap₂}
 use mathlib.Core.Logic.{⊎-elim}
 use mathlib.Core.Bool.{true, false}
-use mathlib.Core.List.{List, [], _∷_}
+use mathlib.Core.List.{List}
 use native.Mathlib.Nat.{suc-mul, mul-le-mul-right, div-add-mod', mod-lt}
 use native.Mathlib.Omega.{arith}
 use lib.ListN.{length, getD}
 use borrow.Author.Tests.{ltb-false, le-ltb, eqb-true, not-false}
-use Rattle.model.specs.Basics.{joined}
 use Rattle.model.specs.Limits.{label}
-use Rattle.model.specs.Table.{bins, shape, table, over}
+use Rattle.model.specs.Table.{bins, table}
 use Rattle.model.specs.Place.{bin, position}
-use Rattle.model.specs.Refusal.{first, overfills, orderPast}
+use Rattle.model.specs.Refusal.{orderPast}
 use Rattle.model.specs.Expansion.{someFall, expanded, differs}
-use Rattle.model.specs.Relocations.{row, rows, page}
+use Rattle.model.specs.Relocations.{row, rows}
 use Rattle.model.specs.Calls.{tableTests, growthTests, rowsOf}
 use Rattle.model.proofs.Counts.{below-or}
 use Rattle.model.proofs.Refusals.{first-number, first-both, first-after, first-pass, first-none}
@@ -26,8 +25,7 @@ use Rattle.model.proofs.Wells.{formed-well}
 use Rattle.model.proofs.Growths.{Accepted, accepted, roomy, some-more}
 use Rattle.model.proofs.Fits.{Fits, expanded-fits}
 use Rattle.model.proofs.Kept.{places-kept}
-use Rattle.model.proofs.Rows.{rows-counted, row-at, rows-falls, moved-place}
-use Rattle.model.proofs.Pages.{fives-rows, page-one}
+use Rattle.model.proofs.Rows.{rows-order, row-at, rows-falls, moved-place}
 use Rattle.mover.specs.Carry.{
   Growth,
   oldTable,
@@ -43,7 +41,7 @@ use Rattle.mover.specs.Carry.{
 }
 use Rattle.mover.specs.Run.{wordOf}
 use Rattle.mover.specs.Claims.{Moves, order, OrderRow, CarryFits}
-use Rattle.mover.specs.Passed.{Ready}
+use Rattle.mover.specs.Ready.{Ready}
 use Rattle.mover.proofs.Copies.{Apart}
 
 -- THE WORD OF A PLACE, where there are p positions to a bin
@@ -96,7 +94,7 @@ ready-accepted g ws m r l =
 -- the rows are as many as the moved buckets
 pub total-moved : (g : Growth) → total g ≡ order g (g .header .buckets)
 unfolding total order rowsOf rows table
-total-moved g = rows-counted (oldTable g) (newTable g) (g .header .buckets)
+total-moved g = rows-order (oldTable g) (newTable g) (g .header .buckets)
 
 -- a moved bucket's row stands at its order number
 pub order-row : OrderRow
@@ -252,19 +250,3 @@ module _ (g : Growth) (ws : List ℕ) (ready : Ready g ws) where
 
 pub carry-fits : CarryFits
 carry-fits g ws m e = new-fits g ws (accepted-ready g ws m e .0)
-
--- THE ROW AS THE MOVE LIST WRITES IT, into a buffer of five numbers: its words
-
-pub words-written
-    : (g : Growth) (m : ℕ) → m < total g → (buffer row : List ℕ) → length buffer ≡ 5
-    → row ≡ over (joined (page m (length buffer) (rows (oldTable g) (newTable g)))) buffer
-    → (wordAt (g .header .capacity) (getD row 1 0) (getD row 2 0) ≡ source g m)
-    × (wordAt (g .header .capacity) (getD row 3 0) (getD row 4 0) ≡ target g m)
-unfolding source target rowAt rowsOf rows total
-words-written g m l buffer row e same =
-    let here : row ≡ getD (rows (oldTable g) (newTable g)) m [] =
-    same
-    ∙ page-one m (rows (oldTable g) (newTable g)) buffer (fives-rows (oldTable g) (newTable g) 0 (oldTable g .buckets)) l e in (
-      ap (λ r. wordAt (g .header .capacity) (getD r 1 0) (getD r 2 0)) here,
-      ap (λ r. wordAt (g .header .capacity) (getD r 3 0) (getD r 4 0)) here,
-    )

@@ -1,4 +1,4 @@
 pub mod Carry
 pub mod Run
-pub mod Passed
+pub mod Ready
 pub mod Claims

@@ -1,15 +1,18 @@
 // The mover: one call carries the word of one moved bucket to its new place. What is proved of runs of calls, power cuts included,
 // is in specs/Claims.antt.
 ghost use Prim.Native.Nat.{_<_};
+ghost use mathlib.Core.List.{[], _∷_};
 ghost use mathlib.Core.Path.{_≡_};
 ghost use lib.ListN.{length, getD, set};
-ghost use Rattle.model.specs.Lent.{Lent, given, arraysNow};
+ghost use Rattle.model.specs.Lent.{given, arraysNow};
 ghost use Rattle.model.specs.Table.{sizes};
+ghost use Rattle.model.specs.Refusal.{first};
 ghost use Rattle.mover.specs.Carry.{growth, total, wordAt, copied, carryReply, carryWords};
-ghost use Rattle.mover.specs.Passed.{Passed};
+ghost use Rattle.mover.specs.Ready.{Ready};
 ghost use Rattle.mover.specs.Claims.{CarryClaims};
 use model::reply::CarryReply;
 use model::table::Header;
+use row_places::row_places;
 
 // What is proved of runs of calls (specs/Claims.antt).
 pub fn claims()
@@ -31,7 +34,7 @@ fn copy_word(words: &mut [u32], from: usize, to: usize)
     words[to] = words[from];
 }
 
-// The row of order number `mark`, of which there are `left` from there on: its word copied.
+// The row of order number `mark`: the word of its old place copied to its new one.
 fn carry_row(
     header: Header,
     tops: &[u32],
@@ -42,28 +45,29 @@ fn carry_row(
     bins: u32,
     words: &mut [u32],
     mark: u32,
-    left: u32,
 )
-    requires { ⌜ Passed (growth header (arraysNow tops ends blocks adjustments) (sizes buckets bins)) (now words) mark left ⌝ }
+    requires { ⌜ Ready (growth header (arraysNow tops ends blocks adjustments) (sizes buckets bins)) (now words) ⌝ }
+    requires { ⌜ mark < total (growth header (arraysNow tops ends blocks adjustments) (sizes buckets bins)) ⌝ }
     ensures { λ _.
         ⌜ now (words .exit) ≡ copied (growth header (given tops ends blocks adjustments) (sizes buckets bins)) mark (now (words .entry)) ⌝ }
 {
-    let mut row = [0u32; 5];
-    relocations::write_relocations(
-        header,
-        tops,
-        ends,
-        blocks,
-        adjustments,
-        buckets,
-        bins,
-        mark,
-        left,
-        &mut row,
-    );
-    let from = word_at(header.capacity, row[1], row[2]);
-    let to = word_at(header.capacity, row[3], row[4]);
+    let places = row_places(header, tops, ends, blocks, adjustments, buckets, bins, mark);
+    let from = word_at(header.capacity, places.old.bin, places.old.position);
+    let to = word_at(header.capacity, places.new.bin, places.new.position);
     copy_word(words, from, to)
+}
+
+// The tests of the words and of the mark, in their order: too few words, and a mark above the total.
+fn last_refusal(short: bool, past: bool) -> u32
+    ensures { λ r. ⌜ r ≡ first ((40, short) ∷ (41, past) ∷ []) ⌝ }
+{
+    if short {
+        return 40;
+    }
+    if past {
+        return 41;
+    }
+    0
 }
 
 // The reply that refuses a call: its number, and zeros.
@@ -106,12 +110,11 @@ pub fn carry(
     if wrong != 0 {
         return refused(wrong);
     }
-    if words.len() < word_at(header.capacity, bins, 0) {
-        return refused(40);
-    }
     let total = relocations::relocation_count(header, tops, buckets, bins);
-    if total < mark {
-        return refused(41);
+    let short = words.len() < word_at(header.capacity, bins, 0);
+    let wrong = last_refusal(short, total < mark);
+    if wrong != 0 {
+        return refused(wrong);
     }
     if total == mark {
         return CarryReply {
@@ -130,7 +133,6 @@ pub fn carry(
         bins,
         words,
         mark,
-        total - mark,
     );
     CarryReply {
         refusal: 0,

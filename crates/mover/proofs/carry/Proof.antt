@@ -1,8 +1,10 @@
 -- `mover::carry` meets its contract: the tests in their order, then the row. Assumes nothing.
 use Prim.Native.Nat.{ℕ, _≤_, _<_}
-use mathlib.Core.Path.{_≡_, refl, sym, _∙_}
-use mathlib.Core.List.{List}
+use mathlib.Core.Path.{_≡_, refl, sym, _∙_, ap₂}
+use mathlib.Core.List.{List, [], _∷_}
+use native.Mathlib.Nat.{add-zero}
 use native.Mathlib.Omega.{arith}
+use lib.Dec.{ltb}
 use lib.ListN.{length}
 use borrow.Author.Needs.{needs}
 use Rattle.model.specs.Table.{arrays, sizes}
@@ -10,14 +12,13 @@ use Rattle.model.specs.Refusal.{first}
 use Rattle.model.specs.Calls.{tableTests, growthTests, rowsOf}
 use Rattle.model.proofs.Soundness.{sound-iff}
 use Rattle.model.proofs.Wells.{lent-tops}
-use Rattle.mover.specs.Carry.{Growth, growth, oldTable, total, wordAt, carryRefusal}
-use Rattle.mover.specs.Passed.{Ready}
-use Rattle.mover.proofs.Spots.{ready-accepted}
-use Rattle.mover.proofs.Replies.{refused-by, by-table, by-growth, by-words, by-mark, words-copied, reply-more, words-end, reply-end}
+use Rattle.mover.specs.Carry.{Growth, growth, oldTable, total, wordAt, wordsShort, carryTests, carryRefusal}
+use Rattle.mover.proofs.Spots.{accepted-ready}
+use Rattle.mover.proofs.Replies.{refused-by, by-table, by-growth, by-last, words-copied, reply-more, words-end, reply-end}
 use Rattle.mover.proofs.carry.Statement.{statement}
 use Rattle.mover.proofs.carry.Tie as tie
 
--- the function's entry, and the growth that it is given
+-- the function's entry, the growth that it is given, and the words
 abbrev start : tie.Else1 → tie.Start
 start c = c .before .before .before .before .before .before .before
 
@@ -27,6 +28,9 @@ g c =
     growth (args .header) (arrays (args .tops .now) (args .ends .now) (args .blocks .now) (args .adjustments .now))
     (sizes (args .buckets) (args .bins))
 
+abbrev words : tie.Else1 → List ℕ
+words c = start c .args .words .now
+
 -- past the table's tests it is sound
 tests : (c : tie.Else1) → first (tableTests (g c .header) (g c .arrays)) ≡ 0
 tests c = sym (c .before .check .ensures) ∙ c .if1 .left
@@ -35,31 +39,28 @@ tests c = sym (c .before .check .ensures) ∙ c .if1 .left
 asked : (c : tie.Else2) → first (growthTests (oldTable (g (c .before .before))) (g (c .before .before) .sizes)) ≡ 0
 asked c = sym (c .before .growth-refusal .ensures _ _ _) ∙ c .if2 .left
 
--- past the length of the words, and with the number of rows known
-abbrev words : tie.Else1 → List ℕ
-words c = start c .args .words .now
-
-ready : (c : tie.Else3) → Ready (g (c .before .before .before .before)) (words (c .before .before .before .before))
-unfolding wordAt
-ready c =
-    record {
-      sound = sound-iff _ _ .0 (tests (c .before .before .before .before));
-      asked = asked (c .before .before);
-      long = omega (arith, c .before .word-at .ensures, c .if3 .left);
-    }
-
-abbrev entry : tie.After-relocation-count → tie.Else1
+-- the last tests are the definition's
+abbrev entry : tie.After-last-refusal → tie.Else1
 entry c = c .before .before .before .before .before
 
-counted : (c : tie.After-relocation-count) → c .relocation-count .result ≡ total (g (entry c))
+counted : (c : tie.After-relocation-count) → c .relocation-count .result ≡ total (g (c .before .before .before))
 unfolding total rowsOf
-counted c = c .relocation-count .ensures _ _ _ (ready (c .before) .sound .formed)
+counted c = c .relocation-count .ensures _ _ _ (sound-iff _ _ .0 (tests (c .before .before .before)) .formed)
 
--- with a mark up to the total it is accepted
-passed
-    : (c : tie.Else4)
-    → carryRefusal (g (entry (c .before))) (words (entry (c .before))) (start (entry (c .before)) .args .mark) ≡ 0
-passed c = ready-accepted _ _ _ (ready (c .before .before)) (omega (arith, counted (c .before), c .if4 .left))
+tested
+    : (c : tie.After-last-refusal)
+    → c .last-refusal .result ≡ carryRefusal (g (entry c)) (words (entry c)) (start (entry c) .args .mark)
+unfolding carryTests wordsShort wordAt
+tested c =
+    let known = c .before .before in
+    c .last-refusal .ensures
+    ∙ ap₂ (λ n k. first ((40, ltb (length (words (entry c))) n) ∷ (41, ltb k (start (entry c) .args .mark)) ∷ []))
+    (c .before .word-at .ensures ∙ add-zero _)
+    (counted known)
+    ∙ by-last _ _ _ 0 (sym (tests (entry c))) refl 0 (sym (asked (known .before))) refl
+
+passed : (c : tie.Else3) → carryRefusal (g (entry (c .before))) (words (entry (c .before))) (start (entry (c .before)) .args .mark) ≡ 0
+passed c = sym (tested (c .before)) ∙ c .if3 .left
 
 check-requires : tie.Need-check-requires
 check-requires c κs = search needs
@@ -68,7 +69,9 @@ refused-requires : tie.Need-refused-requires
 refused-requires c κs = search needs
 
 returns : tie.Need-returns
-returns c = refused-by _ _ _ _ _ (c .refused .ensures) (c .before .if1 .taken) (by-table _ _ _ _ (c .before .before .check .ensures) (c .before .if1 .taken))
+returns c =
+    let wrong = c .before .if1 .taken in
+    refused-by _ _ _ _ _ (c .refused .ensures) wrong (by-table _ _ _ _ (c .before .before .check .ensures) wrong)
 
 growth-refusal-requires : tie.Need-growth-refusal-requires
 growth-refusal-requires c κs = lent-tops _ _ (sound-iff _ _ .0 (tests c) .formed)
@@ -82,65 +85,55 @@ returns-2 c =
     refused-by _ _ _ _ _ (c .refused2 .ensures) wrong
     (by-growth _ _ _ 0 (sym (tests (c .before .before .before))) refl _ (c .before .before .growth-refusal .ensures _ _ _) wrong)
 
+relocation-count-requires : tie.Need-relocation-count-requires
+relocation-count-requires c κs =
+    record { whole = lent-tops _ _ (sound-iff _ _ .0 (tests (c .before .before)) .formed); asked = asked c }
+
 word-at-requires : tie.Need-word-at-requires
 word-at-requires c κs = search needs
+
+last-refusal-requires : tie.Need-last-refusal-requires
+last-refusal-requires c κs = search needs
 
 refused-requires-3 : tie.Need-refused-requires-3
 refused-requires-3 c κs = search needs
 
 returns-3 : tie.Need-returns-3
-unfolding wordAt
-returns-3 c =
-    let known = c .before .before .before in
-    refused-by _ _ _ _ _ (c .refused3 .ensures) (omega arith)
-    (by-words _ _ _ 0 (sym (tests (known .before .before))) refl 0 (sym (asked known)) refl
-    (omega (arith, c .before .before .word-at .ensures, c .before .if3 .taken)))
-
-relocation-count-requires : tie.Need-relocation-count-requires
-relocation-count-requires c κs =
-    record { whole = lent-tops _ _ (ready c .sound .formed); asked = ready c .asked }
-
-refused-requires-4 : tie.Need-refused-requires-4
-refused-requires-4 c κs = search needs
+returns-3 c = refused-by _ _ _ _ _ (c .refused3 .ensures) (c .before .if3 .taken) (tested (c .before .before))
 
 returns-4 : tie.Need-returns-4
 returns-4 c =
-    let known = c .before .before in
-    refused-by _ _ _ _ _ (c .refused4 .ensures) (omega arith)
-    (by-mark _ _ _ 0 (sym (tests (entry known))) refl 0 (sym (ready (known .before) .asked)) refl
-    (ready (known .before) .long)
-    (omega (arith, counted known, c .before .if4 .taken)))
+    let known = c .before .before .before .before in
+    let e = entry (c .before .before) in
+    let end : total (g e) ≤ start e .args .mark = omega (arith, counted known, c .if4 .taken) in
+    (sym (reply-end _ _ _ (passed (c .before)) end), sym (words-end _ _ _ (passed (c .before)) end))
 
-returns-5 : tie.Need-returns-5
-returns-5 c =
-    let ok = passed (c .before) in
-    let known = c .before .before in
-    let end : total (g (entry known)) ≤ start (entry known) .args .mark = omega (arith, counted known, c .if5 .taken) in
-    (sym (reply-end _ _ _ ok end), sym (words-end _ _ _ ok end))
+-- there is the row
+some
+    : (c : tie.Else4)
+    → start (entry (c .before .before)) .args .mark < total (g (entry (c .before .before)))
+some c =
+    let (_, within) = accepted-ready _ _ _ (passed (c .before)) in
+    let other = c .if4 .left in
+    omega (arith, counted (c .before .before .before .before))
 
 carry-row-requires : tie.Need-carry-row-requires
-carry-row-requires c κs =
-    let known = c .before .before .before in
-    let count = counted known in
-    let below = c .before .before .if4 .left in
-    let other = c .before .if5 .left in
-    record { ready = ready (known .before); left = omega arith; some = omega arith }
+carry-row-requires c κs = (accepted-ready _ _ _ (passed (c .before .before)) .0, some (c .before))
 
-add-t19 : tie.Need-add-t19
-add-t19 c = search needs
+add-t21 : tie.Need-add-t21
+add-t21 c =
+    let at = c .before .before .before .before in
+    let other = at .if4 .left in
+    omega (arith, some at, counted (at .before .before .before .before))
 
 same-length : tie.Need-same-length
 same-length c = search needs
 
-returns-6 : tie.Need-returns-6
-returns-6 c =
-    let here = c .before .before .before in
-    let ok = passed (here .before .before) in
-    let known = here .before .before .before in
-    let below = here .before .before .if4 .left in
-    let other = here .before .if5 .left in
-    let some : start (entry known) .args .mark < total (g (entry known)) = omega (arith, counted known) in
-    (sym (reply-more _ _ _ ok some), c .before .before .carry-row .ensures ∙ sym (words-copied _ _ _ ok some))
+returns-5 : tie.Need-returns-5
+returns-5 c =
+    let at = c .before .before .before .before in
+    let ok = passed (at .before) in
+    (sym (reply-more _ _ _ ok (some at)), c .before .before .carry-row .ensures ∙ sym (words-copied _ _ _ ok (some at)))
 
 pub carry-spec : {M : Type 1} → statement M
 carry-spec =
@@ -152,14 +145,13 @@ carry-spec =
     growth-refusal-requires
     refused-requires-2
     returns-2
+    relocation-count-requires
     word-at-requires
+    last-refusal-requires
     refused-requires-3
     returns-3
-    relocation-count-requires
-    refused-requires-4
     returns-4
-    returns-5
     carry-row-requires
-    add-t19
+    add-t21
     same-length
-    returns-6)
+    returns-5)

@@ -1,51 +1,56 @@
--- `mover::carry_row` meets its contract: the move list's row, and its words. Assumes nothing.
-use mathlib.Core.Path.{refl, _∙_, ap₂}
-use mathlib.Core.List.{[], _∷_}
+-- `mover::carry_row` meets its contract: the words of the row's two places. Assumes nothing.
+use mathlib.Core.Path.{_≡_, _∙_, ap, ap₂}
 use native.Mathlib.Omega.{arith}
 use lib.ListN.{getD, set}
 use denote.Ref.{now}
 use borrow.Author.Needs.{needs}
-use Rattle.model.specs.Calls.{rowsOf}
-use Rattle.mover.specs.Carry.{total, put, copied}
-use Rattle.mover.proofs.Spots.{words-written, source-below, target-below}
+use Rattle.model.specs.Table.{arrays, sizes}
+use Rattle.row_places.specs.declared.RowPlaces.{RowPlaces}
+use Rattle.mover.specs.Carry.{Growth, growth, total, rowAt, wordAt, source, target, put, copied}
+use Rattle.mover.proofs.Spots.{source-below, target-below}
 use Rattle.mover.proofs.carry_row.Statement.{statement}
 use Rattle.mover.proofs.carry_row.Tie as tie
 
-slice-aggregate-write-relocations : tie.Need-slice-aggregate-write-relocations
-slice-aggregate-write-relocations c = search needs
+-- the function's entry, and the growth that it is given
+abbrev start : tie.After-word-at2 → tie.Start
+start c = c .before .before .before .before .before .before .before .before
 
-write-relocations-requires : tie.Need-write-relocations-requires
-unfolding total rowsOf
-write-relocations-requires c κs =
-    let pre = c .before .before .before .before .before .before .pre in
-    (pre .ready .sound .formed, (pre .ready .asked, pre .left))
+abbrev g : tie.Start → Growth
+g c =
+    growth (c .args .header) (arrays (c .args .tops .now) (c .args .ends .now) (c .args .blocks .now) (c .args .adjustments .now))
+    (sizes (c .args .buckets) (c .args .bins))
 
-array-read-word-at : tie.Need-array-read-word-at
-array-read-word-at c = search needs
+-- the words of the row's places, as the code has them
+words
+    : (c : tie.After-word-at2)
+    → (c .before .word-at .result ≡ source (g (start c)) (start c .args .mark))
+    × (c .word-at2 .result ≡ target (g (start c)) (start c .args .mark))
+unfolding source target rowAt
+words c =
+    let p = start c .args .header .capacity in
+    let places = c .before .before .row-places .ensures in (
+      c .before .word-at .ensures ∙ ap (λ (r : RowPlaces). wordAt p (r .old .bin) (r .old .position)) places,
+      c .word-at2 .ensures ∙ ap (λ (r : RowPlaces). wordAt p (r .new .bin) (r .new .position)) places,
+    )
 
-array-read-word-at-2 : tie.Need-array-read-word-at-2
-array-read-word-at-2 c = search needs
+row-places-requires : tie.Need-row-places-requires
+unfolding total
+row-places-requires c κs =
+    let (ready, below) = c .before .before .before .before .before .pre in
+    (ready .sound .formed, (ready .asked, below))
 
 word-at-requires : tie.Need-word-at-requires
 word-at-requires c κs = search needs
-
-array-read-word-at-3 : tie.Need-array-read-word-at-3
-array-read-word-at-3 c = search needs
-
-array-read-word-at-4 : tie.Need-array-read-word-at-4
-array-read-word-at-4 c = search needs
 
 word-at-requires-2 : tie.Need-word-at-requires-2
 word-at-requires-2 c κs = search needs
 
 copy-word-requires : tie.Need-copy-word-requires
 copy-word-requires c κs =
-    let pre = c .before .before .before .before .before .before .before .before .before .before .before .pre in
-    let written = c .before .before .before .before .write-relocations .ensures .1 in
-    let (from, to) = words-written _ _ (pre .some) (0 ∷ 0 ∷ 0 ∷ 0 ∷ 0 ∷ []) _ refl written in (
-      omega (arith, c .before .before .word-at .ensures, from, source-below _ _ (pre .ready) _ (pre .some)),
-      omega (arith, c .before .word-at2 .ensures, to, target-below _ _ (pre .ready) _ (pre .some)),
-    )
+    let at = c .before in
+    let (ready, below) = start at .pre in
+    let (from, to) = words at in
+    (omega (arith, source-below _ _ ready _ below), omega (arith, target-below _ _ ready _ below))
 
 same-length : tie.Need-same-length
 same-length c = search needs
@@ -53,26 +58,12 @@ same-length c = search needs
 returns : tie.Need-returns
 unfolding copied put
 returns c =
-    let start = c .before .before .before .before .before .before .before .before .before .before .before .before .before .before in
-    let written = c .before .before .before .before .before .before .before .write-relocations .ensures .1 in
-    let (from, to) = words-written _ _ (start .pre .some) (0 ∷ 0 ∷ 0 ∷ 0 ∷ 0 ∷ []) _ refl written in
+    let at = c .before .before .before .before in
+    let (from, to) = words at in
     c .before .before .copy-word .ensures
-    ∙ ap₂ (λ i k. set (now (start .args .words)) k (getD (now (start .args .words)) i 0))
-    (c .before .before .before .before .before .word-at .ensures ∙ from)
-    (c .before .before .before .before .word-at2 .ensures ∙ to)
+    ∙ ap₂ (λ i k. set (now (start at .args .words)) k (getD (now (start at .args .words)) i 0)) from to
 
 pub carry-row-spec : {M : Type 1} → statement M
 carry-row-spec =
     tie.close
-    (tie.spec
-    slice-aggregate-write-relocations
-    write-relocations-requires
-    array-read-word-at
-    array-read-word-at-2
-    word-at-requires
-    array-read-word-at-3
-    array-read-word-at-4
-    word-at-requires-2
-    copy-word-requires
-    same-length
-    returns)
+    (tie.spec row-places-requires word-at-requires word-at-requires-2 copy-word-requires same-length returns)
