@@ -6,12 +6,14 @@
  * A round measures both one right after the other; there are 101 unless another number is
  * given. Ends with 1 if an answer differs, with 2 if it can't compare.
  */
+#define _DEFAULT_SOURCE
 #include "plain.h"
 
 #include <stdbool.h>
 #include <stdio.h>
 #include <stdlib.h>
 #include <string.h>
+#include <sys/mman.h>
 #include <time.h>
 
 enum {
@@ -23,6 +25,10 @@ enum {
 	MANY_BUCKETS = 324999988, /* of the maps that are measured */
 	FEW_BUCKETS = 324988,     /* of one whose sheet has short numbers */
 	ONE_BIN_BUCKETS = IRR_MAX_CAPACITY - IRR_LABEL, /* the most in one bin */
+	CARRIED_BUCKETS = 999999910, /* of the maps whose words are carried */
+	CARRIED_BINS = 2,  /* of their first blocks: the middle of a list is far from its start */
+	MANY_BINS = 100,   /* of the first blocks of the others */
+	RACK = 4096,       /* words of the largest rack that is compared whole */
 	LIST = 100000,     /* buckets of the longest list */
 	SHORT_LIST = 300,
 	ARGUMENTS = 1024,  /* a power of 2: the calls of a measurement go round them */
@@ -33,19 +39,20 @@ enum {
 /* ---------------------------------------------------------------- the calls */
 
 enum call {
-	INITIAL, EXPAND, RELOCATIONS, PLACE, PLACES, FIND, BIN_SIZE, ROOM, SAVE, LOAD, SHEET,
+	INITIAL, EXPAND, RELOCATIONS, CARRY, PLACE, PLACES, FIND, BIN_SIZE, ROOM, SAVE, LOAD, SHEET,
 	CALL_COUNT
 };
 
 static const char *const names[CALL_COUNT] = {
-	"initial", "expand", "relocations", "place", "places", "find", "bin_size", "room", "save",
-	"load", "sheet",
+	"initial", "expand", "relocations", "carry", "place", "places", "find", "bin_size", "room",
+	"save", "load", "sheet",
 };
 
 struct calls {
 	__typeof__(irr_initial) *initial;
 	__typeof__(irr_expand) *expand;
 	__typeof__(irr_relocations) *relocations;
+	__typeof__(irr_carry) *carry;
 	__typeof__(irr_place) *place;
 	__typeof__(irr_places) *places;
 	__typeof__(irr_find) *find;
@@ -57,13 +64,13 @@ struct calls {
 };
 
 static const struct calls proved = {
-	irr_initial, irr_expand, irr_relocations, irr_place, irr_places, irr_find,
+	irr_initial, irr_expand, irr_relocations, irr_carry, irr_place, irr_places, irr_find,
 	irr_bin_size, irr_room, irr_save, irr_load, irr_sheet,
 };
 
 static const struct calls plain = {
-	plain_initial, plain_expand, plain_relocations, plain_place, plain_places, plain_find,
-	plain_bin_size, plain_room, plain_save, plain_load, plain_sheet,
+	plain_initial, plain_expand, plain_relocations, plain_carry, plain_place, plain_places,
+	plain_find, plain_bin_size, plain_room, plain_save, plain_load, plain_sheet,
 };
 
 /* In the place of `bin_size`, a sum over the lent numbers: the least that reading them costs. */
@@ -179,11 +186,11 @@ static uint32_t bins_of(const struct map *m)
 	return m->tops[m->header.block_count - 1];
 }
 
-/* A fresh map of 100 bins, and one bin more at a time until there are so many blocks. Each
- * growth cuts nearly every old block's last interval. */
-static struct map history(uint32_t buckets, uint32_t blocks)
+/* A fresh map, and one bin more at a time until there are so many blocks. Each growth cuts nearly
+ * every old block's last interval. */
+static struct map history(uint32_t buckets, uint32_t bins, uint32_t blocks)
 {
-	struct map m = fresh(buckets, 100);
+	struct map m = fresh(buckets, bins);
 
 	while (m.header.block_count < blocks)
 		m = grown(&m, m.header.buckets, bins_of(&m) + 1);
@@ -193,12 +200,44 @@ static struct map history(uint32_t buckets, uint32_t blocks)
 /* The largest table: the history to 65 blocks, and one bucket more. */
 static struct map largest(void)
 {
-	struct map m = history(MANY_BUCKETS, MAX_BLOCKS);
+	struct map m = history(MANY_BUCKETS, MANY_BINS, MAX_BLOCKS);
 
 	m = grown(&m, m.header.buckets + 1, bins_of(&m));
 	if (m.header.block_count != MAX_BLOCKS || m.header.interval_count != MAX_INTERVALS)
 		fail("the largest table is not 65 blocks and 2,081 intervals", 2);
 	return m;
+}
+
+/* A map with the most intervals that can still have more bins: the history to 64 blocks, and
+ * one bucket more at a time. */
+static struct map most_intervals(void)
+{
+	struct map m = history(CARRIED_BUCKETS, CARRIED_BINS, MAX_BLOCKS - 1);
+
+	while (m.header.interval_count < MAX_INTERVALS)
+		m = grown(&m, m.header.buckets + 1, bins_of(&m));
+	return m;
+}
+
+/* The map with the least capacity that it allows. */
+static struct map tight(struct map m)
+{
+	uint32_t bins = bins_of(&m);
+
+	m.header.capacity = (m.header.buckets + bins - 1) / bins + IRR_LABEL;
+	return m;
+}
+
+/* How many rows the growth of a map to so many bins has. */
+static uint32_t row_count(const struct map *m, uint32_t bins)
+{
+	return plain.relocations(m->header, ARRAYS(m), m->header.buckets, bins, 0, NULL, 0).total;
+}
+
+/* The words of a rack of so many bins like the map's. */
+static size_t words_of(const struct map *m, uint32_t bins)
+{
+	return (size_t)bins * m->header.capacity;
 }
 
 /* ------------------------------------------------------------ random numbers */
@@ -227,7 +266,7 @@ struct question {
 	uint32_t x, y, z;        /* the numbers, in their order */
 	uint32_t capacity;       /* of a fresh or loaded map */
 	size_t new_lengths[4];   /* of the arrays of a new table */
-	size_t rows_length, buffer_length;
+	size_t rows_length, words_length, buffer_length;
 	const uint8_t *bytes;    /* the file */
 	size_t bytes_length;
 	const uint32_t *buckets; /* the list */
@@ -239,6 +278,7 @@ struct answer {
 	uint32_t tops[MAX_BLOCKS + PAST], ends[MAX_INTERVALS + PAST];
 	uint32_t blocks[MAX_INTERVALS + PAST], adjustments[MAX_INTERVALS + PAST];
 	uint32_t rows[5 * PAGE + PAST];
+	uint32_t words[RACK + PAST];
 	uint8_t buffer[IRR_MAX_SHEET + PAST];
 	uint32_t places[2 * LIST + PAST]; /* last: only what is lent of it is compared */
 };
@@ -259,6 +299,36 @@ static size_t answer_size(const struct question *q)
 #define NEW(q, a) (a)->tops, (q)->new_lengths[0], (a)->ends, (q)->new_lengths[1], \
 		  (a)->blocks, (q)->new_lengths[2], (a)->adjustments, (q)->new_lengths[3]
 
+/* The words of the racks that are too large to be compared whole: address space, in which only
+ * the words that are carried take memory. NULL where it can't be had. */
+static uint32_t *hall;
+static size_t hall_length;
+
+/* Carries a word of the hall; the answer takes the two words of the row. */
+static void carry_in_hall(const struct calls *c, const struct question *q, struct answer *a)
+{
+	uint32_t row[IRR_ROW] = {0};
+
+	plain.relocations(LENT(q), q->x, q->y, q->z, row, IRR_ROW);
+
+	size_t from = (size_t)row[1] * q->map->header.capacity + row[2];
+	size_t to = (size_t)row[3] * q->map->header.capacity + row[4];
+
+	hall[from] = q->z + 1;
+	hall[to] = ~q->z;
+	REPLY(a, c->carry(LENT(q), q->x, q->y, hall, q->words_length, q->z));
+	a->words[0] = hall[from];
+	a->words[1] = hall[to];
+}
+
+/* Carries a word of the answer's. No two of them are the same. */
+static void carry_in_rack(const struct calls *c, const struct question *q, struct answer *a)
+{
+	for (uint32_t i = 0; i < RACK + PAST; i++)
+		a->words[i] = i;
+	REPLY(a, c->carry(LENT(q), q->x, q->y, a->words, q->words_length, q->z));
+}
+
 static void ask(const struct calls *c, const struct question *q, struct answer *a)
 {
 	memset(a, 0xa5, answer_size(q));
@@ -271,6 +341,12 @@ static void ask(const struct calls *c, const struct question *q, struct answer *
 		break;
 	case RELOCATIONS:
 		REPLY(a, c->relocations(LENT(q), q->x, q->y, q->z, a->rows, q->rows_length));
+		break;
+	case CARRY:
+		if (q->words_length > RACK)
+			carry_in_hall(c, q, a);
+		else
+			carry_in_rack(c, q, a);
 		break;
 	case PLACE:
 		REPLY(a, c->place(LENT(q), q->x));
@@ -300,7 +376,7 @@ static void ask(const struct calls *c, const struct question *q, struct answer *
 }
 
 static unsigned long questions, accepted;
-static bool seen[35]; /* refusals */
+static bool seen[42]; /* refusals */
 
 /* Asks both. Ends the program if their replies or any array that they were lent differ, or
  * if an array that is only to be read has changed. */
@@ -346,6 +422,7 @@ static struct question full_question(enum call call, const struct map *m)
 		.lengths = {MAX_BLOCKS, MAX_INTERVALS, MAX_INTERVALS, MAX_INTERVALS},
 		.new_lengths = {MAX_BLOCKS, MAX_INTERVALS, MAX_INTERVALS, MAX_INTERVALS},
 		.rows_length = 5 * SHORT_PAGE,
+		.words_length = RACK,
 		.buffer_length = IRR_MAX_SHEET,
 		.bytes = (const uint8_t *)"",
 		.buckets = no_buckets,
@@ -434,6 +511,15 @@ static void ask_list(struct question *q, const struct map *m)
 	q->places_length = 2 * count + below(3) * below(2);
 }
 
+/* The words that a rack of the sizes asked for needs, or a few more, or a whole rack of those that
+ * are compared where it needs more. */
+static size_t words_for(const struct question *q)
+{
+	size_t words = (size_t)q->y * q->map->header.capacity + below(3);
+
+	return words < RACK ? words : RACK;
+}
+
 /* Random numbers for a question about m: mostly such that it is accepted. */
 static void ask_numbers(struct question *q, const struct map *m)
 {
@@ -447,9 +533,11 @@ static void ask_numbers(struct question *q, const struct map *m)
 		break;
 	case EXPAND:
 	case RELOCATIONS:
+	case CARRY:
 		q->x = below(4) ? buckets + below(3) * below(70) : near(buckets);
 		q->y = below(4) ? bins + below(3) : near(bins);
 		q->z = below(4) ? below(3) : near(buckets / (bins + 1));
+		q->words_length = words_for(q);
 		break;
 	case ROOM:
 		q->x = near(below(66));
@@ -482,6 +570,7 @@ static void ask_lengths(struct question *q, const struct map *m)
 	q->lengths[below(4)] -= below(4) == 0;
 	q->new_lengths[below(4)] -= below(4) == 0;
 	q->rows_length = below(5 * SHORT_PAGE);
+	q->words_length -= q->words_length > 0 && below(4) == 0;
 	q->buffer_length = needed - (below(4) == 0);
 	q->places_length = 2 * q->buckets_length;
 	q->places_length -= q->places_length > 0 && below(4) == 0;
@@ -533,10 +622,10 @@ static void compare_one_bin(struct map m)
 	for (uint32_t buckets = ONE_BIN_BUCKETS - 2; buckets <= IRR_MAX_BUCKETS; buckets++) {
 		const uint32_t x[CALL_COUNT] = {
 			[INITIAL] = buckets, [EXPAND] = buckets + 1, [RELOCATIONS] = buckets + 1,
-			[PLACE] = buckets - 1,
+			[CARRY] = buckets + 1, [PLACE] = buckets - 1,
 		};
 		const uint32_t y[CALL_COUNT] = {
-			[INITIAL] = 1, [EXPAND] = 1, [RELOCATIONS] = 1,
+			[INITIAL] = 1, [EXPAND] = 1, [RELOCATIONS] = 1, [CARRY] = 1,
 			[FIND] = IRR_LABEL + buckets - 1,
 		};
 		const uint32_t file[6] = {buckets, 1, 1, 1, buckets, 0};
@@ -554,10 +643,31 @@ static void compare_one_bin(struct map m)
 	}
 }
 
+/* Both at any marks of the list of a growth to twice the bins, and at those of its ends. */
+static void compare_carries(const struct map *m)
+{
+	struct question q = full_question(CARRY, m);
+	uint32_t total;
+
+	q.x = m->header.buckets;
+	q.y = 2 * bins_of(m);
+	q.words_length = words_of(m, q.y);
+	total = row_count(m, q.y);
+
+	const uint32_t edges[] = {0, 1, total - 1, total, total + 1, UINT32_MAX};
+
+	for (size_t i = 0; i < 500 + sizeof edges / sizeof *edges; i++) {
+		q.z = i < 500 ? below(total) : edges[i - 500];
+		compare(&q);
+	}
+	q.words_length--;
+	compare(&q);
+}
+
 static void compare_random(const struct map *large, size_t count)
 {
 	static const int numbers[] = {1, 2, 3, 4, 5, 6, 7, 8, 9, 11, 12, 13, 14, 15, 16, 21,
-				      30, 31, 32, 33, 34};
+				      30, 31, 32, 33, 34, 40, 41};
 	struct map m;
 
 	for (int i = 0; i < 3000; i++) {
@@ -578,6 +688,7 @@ struct work {
 	char what[120];         /* the table and the arguments, in words */
 	size_t rows_length;
 	uint32_t rows;          /* that a call of relocations writes */
+	size_t words_length;
 	size_t bytes_length;
 	uint8_t bytes[MAX_SAVED];
 	uint32_t x[ARGUMENTS], y[ARGUMENTS], z;
@@ -630,6 +741,17 @@ LOOP(relocations_loop)
 	EACH_CALL
 		sum += c->relocations(w->map->header, ARRAYS(w->map), w->x[TURN], w->y[TURN],
 				      w->z, rows, w->rows_length).written;
+	return sum;
+}
+
+/* At the marks from w->z on: as many as there are other arguments. */
+LOOP(carry_loop)
+{
+	uint32_t sum = 0;
+
+	EACH_CALL
+		sum += c->carry(w->map->header, ARRAYS(w->map), w->x[TURN], w->y[TURN],
+				hall, w->words_length, w->z + TURN).mark;
 	return sum;
 }
 
@@ -716,6 +838,7 @@ INLINE uint32_t loop(const struct calls *c, const struct work *w, size_t times)
 	case INITIAL: return initial_loop(c, w, times);
 	case EXPAND: return expand_loop(c, w, times);
 	case RELOCATIONS: return relocations_loop(c, w, times);
+	case CARRY: return carry_loop(c, w, times);
 	case PLACE: return place_loop(c, w, times);
 	case PLACES: return places_loop(c, w, times);
 	case FIND: return find_loop(c, w, times);
@@ -853,8 +976,8 @@ static void compare_work(const struct work *w)
 	struct question q = full_question(w->call, w->map);
 	unsigned long before = accepted;
 
-	q.z = w->z;
 	q.rows_length = w->rows_length;
+	q.words_length = w->words_length;
 	q.bytes = w->bytes;
 	q.bytes_length = w->bytes_length;
 	q.buckets_length = w->list_length;
@@ -865,6 +988,7 @@ static void compare_work(const struct work *w)
 	for (size_t i = 0; i < count; i++) {
 		q.x = w->x[i];
 		q.y = w->y[i];
+		q.z = w->z + (w->call == CARRY ? (uint32_t)i : 0);
 		if (w->call == PLACES)
 			q.buckets = w->lists + w->list_length * i;
 		compare(&q);
@@ -923,15 +1047,14 @@ static struct work *add_growth(enum call call, const struct map *m, uint32_t buc
 static void add_page(const struct map *m, uint32_t bins, bool middle, uint32_t page,
 		     const char *where)
 {
-	struct irr_relocations_reply reply =
-		plain.relocations(m->header, ARRAYS(m), m->header.buckets, bins, 0, rows, 0);
+	uint32_t total = row_count(m, bins);
 	struct work *w = add_growth(RELOCATIONS, m, m->header.buckets, bins, "");
 
-	w->z = middle ? reply.total / 2 : 0;
+	w->z = middle ? total / 2 : 0;
 	w->rows = page;
 	w->rows_length = 5 * page;
 	snprintf(w->what, sizeof w->what, "%s: %s of %s rows, a page of %s", where,
-		 middle ? "the middle" : "the start", grouped(reply.total), grouped(page));
+		 middle ? "the middle" : "the start", grouped(total), grouped(page));
 }
 
 static void add_pages(const struct map *m, uint32_t bins, const char *where)
@@ -973,21 +1096,67 @@ static struct work *add_lists(const struct map *m, size_t length, size_t count, 
  * has as many bins as a map may have, is only asked about. */
 enum {
 	ONE, TWELVE, THIRTY_TWO, SIXTY_FOUR, LARGEST, HALVED_ONE, HALVED_TEN, WIDEST, SHORT_NUMBERS,
-	MAP_COUNT
+	CARRIED_ONE, CARRIED_TWELVE, CARRIED_MOST, MAP_COUNT
 };
 static struct map maps[MAP_COUNT];
 
 static void make_maps(void)
 {
-	maps[ONE] = history(MANY_BUCKETS, 1);
-	maps[TWELVE] = history(MANY_BUCKETS, 12);
-	maps[THIRTY_TWO] = history(MANY_BUCKETS, 32);
-	maps[SIXTY_FOUR] = history(MANY_BUCKETS, 64);
+	maps[ONE] = history(MANY_BUCKETS, MANY_BINS, 1);
+	maps[TWELVE] = history(MANY_BUCKETS, MANY_BINS, 12);
+	maps[THIRTY_TWO] = history(MANY_BUCKETS, MANY_BINS, 32);
+	maps[SIXTY_FOUR] = history(MANY_BUCKETS, MANY_BINS, 64);
 	maps[LARGEST] = largest();
 	maps[HALVED_ONE] = fresh(ONE_BIN_BUCKETS, 1);
 	maps[HALVED_TEN] = fresh(1000000000, 10);
 	maps[WIDEST] = fresh(999999999, 65535);
-	maps[SHORT_NUMBERS] = history(FEW_BUCKETS, 64);
+	maps[SHORT_NUMBERS] = history(FEW_BUCKETS, MANY_BINS, 64);
+	maps[CARRIED_ONE] = tight(history(CARRIED_BUCKETS, CARRIED_BINS, 1));
+	maps[CARRIED_TWELVE] = tight(history(CARRIED_BUCKETS, CARRIED_BINS, 12));
+	maps[CARRIED_MOST] = tight(most_intervals());
+}
+
+/* Address space for the words of the maps that are carried. Small pages: a word that is carried
+ * takes no more than one. */
+static void open_hall(void)
+{
+	for (int i = CARRIED_ONE; i <= CARRIED_MOST; i++) {
+		size_t words = words_of(&maps[i], 2 * bins_of(&maps[i]));
+
+		hall_length = words > hall_length ? words : hall_length;
+	}
+	hall = mmap(NULL, hall_length * sizeof *hall, PROT_READ | PROT_WRITE,
+		    MAP_PRIVATE | MAP_ANONYMOUS | MAP_NORESERVE, -1, 0);
+	if (hall == MAP_FAILED) {
+		hall = NULL;
+		printf("`carry` is not measured: no address space for %s words.\n",
+		       grouped((double)hall_length));
+		return;
+	}
+	madvise(hall, hall_length * sizeof *hall, MADV_NOHUGEPAGE);
+}
+
+/* Rows of the list of a growth to twice the bins, a call each: from its middle on, or its last. */
+static void add_carry(const struct map *m, bool last)
+{
+	uint32_t bins = 2 * bins_of(m), total = row_count(m, bins);
+	struct work *w = add_growth(CARRY, m, m->header.buckets, bins, "");
+
+	w->z = last ? total - ARGUMENTS : total / 2;
+	w->words_length = words_of(m, bins);
+	snprintf(w->what, sizeof w->what, "intervals %s, blocks %u: the %s of %s rows",
+		 grouped(m->header.interval_count), m->header.block_count,
+		 last ? "end" : "middle", grouped(total));
+}
+
+/* On a fresh map, on few intervals, and on the most. */
+static void add_carries(void)
+{
+	if (hall == NULL)
+		return;
+	for (int i = CARRIED_ONE; i <= CARRIED_MOST; i++)
+		add_carry(&maps[i], false);
+	add_carry(&maps[CARRIED_MOST], true);
 }
 
 /* The calls on the largest table and on a fresh one. */
@@ -1013,6 +1182,7 @@ static void add_calls(void)
 	add_pages(most, bins_of(most) + 1, "64 blocks to 65");
 	add_pages(&maps[HALVED_ONE], 2, "1 bin to 2");
 	add_pages(&maps[HALVED_TEN], 20, "10 bins to 20");
+	add_carries();
 	add(INITIAL, one, "any sizes");
 	add(ROOM, one, "0 to 64 growths");
 	add(SHEET, all, "largest");
@@ -1061,6 +1231,12 @@ static void print_histories(void)
 	       "of fresh maps of %s and of %s buckets.\n",
 	       grouped(maps[LARGEST].header.interval_count),
 	       grouped(maps[HALVED_ONE].header.buckets), grouped(maps[HALVED_TEN].header.buckets));
+	if (hall == NULL)
+		return;
+	printf("`carry` is measured on such histories of %s buckets from %d bins on, the last\n"
+	       "with one bucket more at a time to %s intervals; each has the least capacity, and\n"
+	       "grows to twice its bins. A call is a row.\n", grouped(CARRIED_BUCKETS), CARRIED_BINS,
+	       grouped(maps[CARRIED_MOST].header.interval_count));
 }
 
 static void print_table(const char *title, const struct work *from, const struct work *to)
@@ -1159,6 +1335,7 @@ int main(int argc, char **argv)
 	if (rounds < 1)
 		fail("the number of rounds is not above 0", 2);
 	make_maps();
+	open_hall();
 	add_calls();
 	calls_end = work_count;
 	add_lengths();
@@ -1166,6 +1343,8 @@ int main(int argc, char **argv)
 	compare_random(maps, MAP_COUNT);
 	compare_growths(&maps[LARGEST]);
 	compare_one_bin(maps[HALVED_ONE]);
+	for (int i = CARRIED_ONE; i <= CARRIED_MOST && hall != NULL; i++)
+		compare_carries(&maps[i]);
 	for (size_t i = 0; i < work_count; i++)
 		compare_work(&works[i]);
 	printf("The same answers to %s questions, %s of them refused.\n",

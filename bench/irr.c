@@ -1,4 +1,4 @@
-/* The eleven calls of the placement map in plain C: what the proved calls are measured
+/* The twelve calls of the placement map in plain C: what the proved calls are measured
  * against. Same arguments, same replies, same refusals in the same order. What they do
  * with a table that has passed the check is in method.h.
  */
@@ -10,7 +10,8 @@ enum {
 	FIELD = 10, /* columns */
 	HEAD = 2 * FIELD, /* of a line of a sheet: the fields of an interval */
 	TAIL = 3 * FIELD + 1, /* those of its block, and the line feed */
-	MANY = 128 /* intervals from which on it pays to write each block's tail once */
+	MANY = 128 /* intervals from which on it pays to write each block's tail once, or to pass over
+		    * them four a turn for a row */
 };
 
 _Static_assert(__BYTE_ORDER__ == __ORDER_LITTLE_ENDIAN__, "a saved number is copied as it is");
@@ -312,6 +313,64 @@ static void list_moves(const struct table *old, uint32_t bins, const uint32_t du
 	}
 }
 
+/* ------------------------------------------------------------ one row carried */
+
+/* The word of the place of a rank in the block of `width` bins from `first` on. */
+static inline size_t word_of(uint32_t capacity, uint32_t first, uint32_t width, uint32_t rank)
+{
+	return (size_t)(first + rank % width) * capacity + (rank / width + IRR_LABEL);
+}
+
+/* Does the row of order number `mark`, which is also its bucket's rank in the new block. Its
+ * interval is i or a later one, and `rows` rows from i's first on come before it. */
+static inline void carry_from(const struct table *old, uint32_t bins, const uint32_t due[],
+			      uint32_t i, uint32_t rows, uint32_t mark, uint32_t *words)
+{
+	uint32_t start = start_of(old, i), cut = cut_of(old, due, i, start);
+
+	while (old->ends[i] - cut <= rows) {
+		rows -= old->ends[i] - cut;
+		start = old->ends[i++];
+		cut = cut_of(old, due, i, start);
+	}
+
+	uint32_t first = first_bin(old, old->blocks[i]);
+	uint32_t width = old->tops[old->blocks[i]] - first, old_bins = bins_of(old);
+	uint32_t rank = cut + rows - old->adjustments[i];
+
+	words[word_of(old->header.capacity, old_bins, bins - old_bins, mark)] =
+		words[word_of(old->header.capacity, first, width, rank)];
+}
+
+/* How many buckets of an interval move, where its block is due so many. */
+static inline uint32_t moving(uint32_t due, uint32_t start, uint32_t end, uint32_t adjustment)
+{
+	return end - cut_at(due, start, end, adjustment);
+}
+
+/* The same of many intervals: those before the row's are passed over four a turn. */
+static __attribute__((noinline)) void carry_by_fours(struct table old, uint32_t bins,
+						     const uint32_t due[], uint32_t mark,
+						     uint32_t *words)
+{
+	const uint32_t *ends = old.ends, *blocks = old.blocks, *adjustments = old.adjustments;
+	const uint32_t *stop = ends + old.header.interval_count;
+	uint32_t start = 0, rows = mark;
+
+	for (; ends + 3 < stop; ends += 4, blocks += 4, adjustments += 4) {
+		uint32_t here = moving(due[blocks[0]], start, ends[0], adjustments[0]) +
+				moving(due[blocks[1]], ends[0], ends[1], adjustments[1]) +
+				moving(due[blocks[2]], ends[1], ends[2], adjustments[2]) +
+				moving(due[blocks[3]], ends[2], ends[3], adjustments[3]);
+
+		if (rows < here)
+			break;
+		rows -= here;
+		start = ends[3];
+	}
+	carry_from(&old, bins, due, (uint32_t)(ends - old.ends), rows, mark, words);
+}
+
 /* ---------------------------------------------------------- a list of buckets */
 
 /* 32: a bucket smaller than the one before it. As with a table, no branch on the data. */
@@ -477,8 +536,7 @@ plain_relocations(struct irr_header header,
 	if (refusal != 0)
 		return relocations_reply(refusal, 0, 0);
 
-	uint32_t most = due_sizes(&t, share_of(buckets, bins), due);
-	uint32_t total = most < header.buckets ? header.buckets - most : 0;
+	uint32_t total = moved_count(&t, due_sizes(&t, share_of(buckets, bins), due));
 
 	if (first > total)
 		return relocations_reply(9, 0, 0);
@@ -487,6 +545,50 @@ plain_relocations(struct irr_header header,
 
 	list_moves(&t, bins, due, first, count, rows);
 	return relocations_reply(0, count, total);
+}
+
+/* As place_reply. */
+static inline struct irr_carry_reply carry_reply(uint32_t refusal, uint32_t mark,
+						 uint32_t finished)
+{
+	struct irr_carry_reply reply;
+	uint64_t first = pair(refusal, mark);
+
+	memcpy(&reply, &first, sizeof first);
+	reply.finished = finished;
+	return reply;
+}
+
+struct irr_carry_reply
+plain_carry(struct irr_header header,
+	    const uint32_t *tops, size_t tops_length, const uint32_t *ends, size_t ends_length,
+	    const uint32_t *blocks, size_t blocks_length,
+	    const uint32_t *adjustments, size_t adjustments_length,
+	    uint32_t buckets, uint32_t bins,
+	    uint32_t *words, size_t words_length, uint32_t mark)
+{
+	struct table t = {header, tops, ends, blocks, adjustments, {0, 0}};
+	uint32_t refusal = check(&t, tops_length, ends_length, blocks_length, adjustments_length);
+	uint32_t due[IRR_MAX_BLOCKS];
+
+	if (refusal == 0)
+		refusal = growth_refusal(&t, buckets, bins);
+	if (refusal != 0)
+		return carry_reply(refusal, 0, 0);
+	if (words_length < (size_t)bins * header.capacity)
+		return carry_reply(40, 0, 0);
+
+	uint32_t total = moved_count(&t, due_sizes(&t, share_of(buckets, bins), due));
+
+	if (mark > total)
+		return carry_reply(41, 0, 0);
+	if (mark == total)
+		return carry_reply(0, mark, 1);
+	if (header.interval_count < MANY)
+		carry_from(&t, bins, due, 0, mark, mark, words);
+	else
+		carry_by_fours(t, bins, due, mark, words);
+	return carry_reply(0, mark + 1, 0);
 }
 
 struct irr_place_reply

@@ -183,13 +183,25 @@ static inline uint32_t due_sizes(const struct table *t, struct share share,
 	return below;
 }
 
-/* Where interval i of a map that drains is cut: the buckets from `start` up to the cut
- * stay, those from the cut to the end move. A cut at the end means that the interval
- * stays, a cut at the start that it moves whole. */
+/* How many buckets of the old map move, where its bins are due so many after the growth. */
+static inline uint32_t moved_count(const struct table *old, uint32_t due)
+{
+	return due < old->header.buckets ? old->header.buckets - due : 0;
+}
+
+/* Where an interval of a map that drains is cut, its block being due so many: the buckets from
+ * `start` up to the cut stay, those from the cut to the end move. A cut at the end means that the
+ * interval stays, a cut at the start that it moves whole. */
+static inline uint32_t cut_at(uint32_t due, uint32_t start, uint32_t end, uint32_t adjustment)
+{
+	return min(max(due + adjustment, start), end);
+}
+
+/* The cut of interval i. */
 static inline uint32_t cut_of(const struct table *t, const uint32_t due[], uint32_t i,
 			      uint32_t start)
 {
-	return min(max(due[t->blocks[i]] + t->adjustments[i], start), t->ends[i]);
+	return cut_at(due[t->blocks[i]], start, t->ends[i], t->adjustments[i]);
 }
 
 /* Lists the intervals of which buckets move: those at whose end their block holds more than
@@ -366,7 +378,7 @@ grown(struct table lent, uint32_t buckets, uint32_t bins, struct new_table lent_
 		fill(old, buckets, bins, had, due, new);
 
 	return (struct irr_table_reply){
-		.moved = most < h.buckets ? h.buckets - most : 0,
+		.moved = moved_count(old, most),
 		.header = {buckets, h.capacity, h.block_count + (bins > bins_of(old)), count},
 	};
 }

@@ -1,4 +1,4 @@
-/* The eleven calls by hand (irr.c), each declared like the proved call of its name. */
+/* The twelve calls by hand (irr.c), each declared like the proved call of its name. */
 #ifndef BENCH_PLAIN_H
 #define BENCH_PLAIN_H
 
@@ -9,6 +9,7 @@
 PLAIN(initial);
 PLAIN(expand);
 PLAIN(relocations);
+PLAIN(carry);
 PLAIN(place);
 PLAIN(places);
 PLAIN(find);

@@ -36,7 +36,7 @@ extern "C" {
 
 /* The version of this header and its library; IRR_VERSION is one number, to compare in an #if. */
 #define IRR_VERSION_MAJOR 0
-#define IRR_VERSION_MINOR 5
+#define IRR_VERSION_MINOR 6
 #define IRR_VERSION_PATCH 0
 #define IRR_VERSION (10000 * IRR_VERSION_MAJOR + 100 * IRR_VERSION_MINOR + IRR_VERSION_PATCH)
 
@@ -70,6 +70,7 @@ enum irr_refusal {
                                 plus 8 */
     IRR_ORDER_OUTSIDE = 9,   /* first order number above the total, or expansions above 64 */
     IRR_LIST_FALLS = 32,     /* in a list of buckets, one smaller than the one before it */
+    IRR_MARK_OUTSIDE = 41,   /* mark above the total */
     /* a lent table or a file */
     IRR_WRONG_COUNT = 11,    /* B or a count outside its limits, an array shorter than its count,
                                 or a file of another length */
@@ -84,7 +85,8 @@ enum irr_refusal {
     /* lent room */
     IRR_ROOM_SHORT = 21,     /* below 65 tops or 2,081 of an interval array, or a file's length */
     IRR_RESULT_SHORT = 33,   /* a result shorter than two numbers a bucket */
-    IRR_SHEET_SHORT = 34     /* a buffer shorter than 51 bytes an interval */
+    IRR_SHEET_SHORT = 34,    /* a buffer shorter than 51 bytes an interval */
+    IRR_WORDS_SHORT = 40     /* fewer words than the new number of bins * P */
 };
 
 /* What travels with the four arrays of a table. */
@@ -105,6 +107,12 @@ struct irr_relocations_reply {
     uint32_t refusal;
     uint32_t written; /* rows */
     uint32_t total;   /* rows of the whole list */
+};
+
+struct irr_carry_reply {
+    uint32_t refusal;
+    uint32_t mark;     /* of an accepted call: the one to store */
+    uint32_t finished; /* 1 where there was no row left to do; otherwise 0 */
 };
 
 struct irr_place_reply {
@@ -190,6 +198,32 @@ struct irr_relocations_reply irr_relocations(
     const uint32_t *adjustments, size_t adjustments_len,
     uint32_t buckets, uint32_t bins, uint32_t first,
     uint32_t *rows, size_t rows_len);
+
+/*
+ * Carries one moved bucket: does the row of order number `mark` of the list of irr_relocations for
+ * this map and these sizes. The word of a place is words[bin * P + position], a 64-bit index. The
+ * word at the row's old place is copied to its new place, and the reply has the mark plus 1; where
+ * the mark is the total nothing is copied, and the reply has the mark as it was and `finished` 1.
+ * What the plant has to do, for a run that power cuts can't harm:
+ * - It begins at mark 0, with the word of every old bucket at its old place.
+ * - It gives all calls of the run the same map and the same sizes, and nothing else writes to the
+ *   words.
+ * - After an accepted call it stores the mark of the reply, once the copied word is stored, and
+ *   gives the stored mark to the next call. The mark of a refusal is 0, and not to be stored.
+ * A cut in a copy may leave anything in the word at the row's new place, and a cut in storing the
+ * mark the old one or the new one, whole. At any time a moved bucket with an order number below the
+ * stored mark is right at its new place, and every other old bucket at its old one. Carried on from
+ * the stored mark, the run ends with the words of one that was not cut.
+ * Refusals: 11, 12, 13, 14, 15, 16, 30, 1, 2, 3, 4, 5, 31, 40, 41; not 8. Writes one word, or none.
+ */
+struct irr_carry_reply irr_carry(
+    struct irr_header header,
+    const uint32_t *tops, size_t tops_len,
+    const uint32_t *ends, size_t ends_len,
+    const uint32_t *blocks, size_t blocks_len,
+    const uint32_t *adjustments, size_t adjustments_len,
+    uint32_t buckets, uint32_t bins,
+    uint32_t *words, size_t words_len, uint32_t mark);
 
 /*
  * The bin and the position of a bucket: a position from 8 on, and below the capacity.

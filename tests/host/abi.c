@@ -25,6 +25,10 @@ SIZE(irr_relocations_reply, 12);
 AT(irr_relocations_reply, refusal, 0);
 AT(irr_relocations_reply, written, 4);
 AT(irr_relocations_reply, total, 8);
+SIZE(irr_carry_reply, 12);
+AT(irr_carry_reply, refusal, 0);
+AT(irr_carry_reply, mark, 4);
+AT(irr_carry_reply, finished, 8);
 SIZE(irr_place_reply, 12);
 AT(irr_place_reply, refusal, 0);
 AT(irr_place_reply, bin, 4);
@@ -62,7 +66,7 @@ _Static_assert(IRR_OK == 0 && IRR_SIZE_OUTSIDE == 1 && IRR_BINS_ABOVE == 2 &&
                    IRR_WRONG_END == 13 && IRR_WRONG_BLOCK == 14 && IRR_WRONG_HOLDING == 15 &&
                    IRR_WRONG_ADJUSTMENT == 16 && IRR_ROOM_SHORT == 21 && IRR_WRONG_CAPACITY == 30 &&
                    IRR_BIN_OVERFULL == 31 && IRR_LIST_FALLS == 32 && IRR_RESULT_SHORT == 33 &&
-                   IRR_SHEET_SHORT == 34,
+                   IRR_SHEET_SHORT == 34 && IRR_WORDS_SHORT == 40 && IRR_MARK_OUTSIDE == 41,
                "refusal numbers");
 
 struct table {
@@ -101,6 +105,7 @@ static void same(const char *what, const void *got, size_t n, const uint32_t *wa
 #define HEADER(h) (h).buckets, (h).capacity, (h).block_count, (h).interval_count
 #define TABLE(r) (const uint32_t[]){(r).refusal, (r).moved, HEADER((r).header)}
 #define LIST(r) (const uint32_t[]){(r).refusal, (r).written, (r).total}
+#define CARRY(r) (const uint32_t[]){(r).refusal, (r).mark, (r).finished}
 #define PLACE(r) (const uint32_t[]){(r).refusal, (r).bin, (r).position}
 #define PLACES(r) (const uint32_t[]){(r).refusal}
 #define FIND(r) (const uint32_t[]){(r).refusal, (r).bucket}
@@ -149,6 +154,32 @@ static void check_replies(void)
     same("irr_bin_size", BIN_SIZE(size), WANT(0, 4));
     struct irr_room_reply room = irr_room(64);
     same("irr_room", ROOM(room), WANT(0, 2081));
+}
+
+/* the rows of the growth of (10, 2) to (10, 3) in bins of 13 positions, carried from the last to the
+ * first: the words of the two old bins, and those of the new one at their positions 8 to 10 */
+static void check_words(void)
+{
+    struct irr_header header = {10, 13, 1, 1};
+    uint32_t words[3 * 13 + 1];
+    for (uint32_t i = 0; i < 3 * 13 + 1; i++)
+        words[i] = i;
+    struct irr_carry_reply carry = irr_carry(header, ARRAYS(&a), 10, 3, words, 3 * 13, 2);
+    same("irr_carry, row 2", CARRY(carry), WANT(0, 3, 0));
+    same("its word, and those beside it", words + 35, WANT(35, 25, 37, 38, 39));
+    carry = irr_carry(header, ARRAYS(&a), 10, 3, words, 3 * 13, 1);
+    same("irr_carry, row 1", CARRY(carry), WANT(0, 2, 0));
+    carry = irr_carry(header, ARRAYS(&a), 10, 3, words, 3 * 13, 0);
+    same("irr_carry, row 0", CARRY(carry), WANT(0, 1, 0));
+    same("the words of the new bin", words + 33, WANT(33, 24, 12, 25, 37, 38, 39));
+    carry = irr_carry(header, ARRAYS(&a), 10, 3, words, 3 * 13, 3);
+    same("irr_carry, at the total", CARRY(carry), WANT(0, 3, 1));
+    carry = irr_carry(header, ARRAYS(&a), 10, 3, words, 3 * 13, 4);
+    same("irr_carry, above the total", CARRY(carry), WANT(41, 0, 0));
+    carry = irr_carry(header, ARRAYS(&a), 10, 3, words, 3 * 13 - 1, 0);
+    same("irr_carry, a word short", CARRY(carry), WANT(40, 0, 0));
+    same("words of the old bins", words, WANT(0, 1, 2, 3, 4, 5, 6, 7, 8));
+    same("and their last ones", words + 24, WANT(24, 25, 26, 27, 28));
 }
 
 /* room: one interval, and for each expansion one more than for the one before it; then 9, also
@@ -306,6 +337,8 @@ static void check_empty(uint32_t *p)
     same("irr_expand, empty table", TABLE(table), WANT(11, 0, 0, 0, 0, 0));
     struct irr_relocations_reply list = irr_relocations(header, NONE(p), 10, 3, 0, p, 0);
     same("irr_relocations, empty", LIST(list), WANT(11, 0, 0));
+    struct irr_carry_reply carry = irr_carry(header, NONE(p), 10, 3, p, 0, 0);
+    same("irr_carry, empty", CARRY(carry), WANT(11, 0, 0));
     struct irr_place_reply place = irr_place(header, NONE(p), 7);
     same("irr_place, empty", PLACE(place), WANT(11, 0, 0));
     struct irr_places_reply places = irr_places(header, NONE(p), p, 0, p, 0);
@@ -325,6 +358,8 @@ static void check_empty(uint32_t *p)
     table = irr_initial(10, 2, P, ARRAYS(&a));
     list = irr_relocations(table.header, ARRAYS(&a), 10, 3, 0, p, 0);
     same("irr_relocations, no rows", LIST(list), WANT(0, 0, 3));
+    carry = irr_carry(table.header, ARRAYS(&a), 10, 3, p, 0, 0);
+    same("irr_carry, no words", CARRY(carry), WANT(40, 0, 0));
     places = irr_places(table.header, ARRAYS(&a), p, 0, p, 0);
     same("irr_places, no buckets", PLACES(places), WANT(0));
     places = irr_places(table.header, ARRAYS(&a), (const uint32_t[]){7}, 1, p, 0);
@@ -338,6 +373,7 @@ static void check_empty(uint32_t *p)
 int main(void)
 {
     check_replies();
+    check_words();
     check_rooms();
     check_file();
     check_figures();

@@ -3,6 +3,7 @@
 
 #include <inttypes.h>
 #include <stdio.h>
+#include <string.h>
 
 #include "calls.h"
 #include "directory.h"
@@ -16,11 +17,12 @@
     (t)->tops, IRR_MAX_BLOCKS, (t)->ends, IRR_MAX_INTERVALS, (t)->blocks, IRR_MAX_INTERVALS, \
         (t)->adjustments, IRR_MAX_INTERVALS
 
-/* entries behind the places of a list, which no call may write, and what they hold */
-enum { PAST = 3, KEPT = 0xeeee };
+/* entries behind the places of a list or the words of a rack, which no call may write, and what
+ * those of a list hold; words of the largest rack */
+enum { PAST = 3, KEPT = 0xeeee, RACK = 16384 };
 
 static struct directory before, after;
-static uint64_t maps, places, lists, lines, growths, rows_seen, overfull_seen;
+static uint64_t maps, places, lists, lines, growths, rows_seen, carried_seen, overfull_seen;
 static uint32_t listed[2 * DIRECTORY_BUCKETS], numbers[4 * DIRECTORY_BUCKETS + PAST];
 static struct irr_place_reply single[DIRECTORY_BUCKETS];
 
@@ -344,6 +346,54 @@ static void check_rows(const struct table *old, const struct table *grown, uint3
     rows_seen += moved;
 }
 
+/* where the word of bucket x is */
+static size_t word_at(const struct directory *d, uint32_t capacity, int x)
+{
+    return (size_t)d->bin[x] * capacity + (size_t)d->position[x];
+}
+
+/* the words of a rack, and what they should be */
+static uint32_t words[RACK + PAST], right[RACK + PAST];
+
+/* one call at `mark`: its reply, and every word after it */
+static void check_call(const struct table *old, struct irr_header h, const struct table *grown,
+                       uint32_t mark, struct irr_carry_reply want)
+{
+    uint32_t bins = table_bins(grown);
+    size_t count = (size_t)bins * h.capacity;
+    struct irr_carry_reply r =
+        irr_carry(h, ARRAYS(old), grown->header.buckets, bins, words, count, mark);
+    if (r.refusal != want.refusal || r.mark != want.mark || r.finished != want.finished)
+        fault("irr_carry: mark, refusal, mark replied", mark, r.refusal, r.mark);
+    if (memcmp(words, right, (count + PAST) * sizeof *words) != 0)
+        fault("irr_carry: a word that is not right: mark, buckets, bins", mark,
+              grown->header.buckets, bins);
+}
+
+/* The moved buckets carried one by one, from the first row to the last: after each call, every word
+ * is the directory's. Then a call at the total, and one above it. The capacity is the least. */
+static void check_carried(const struct table *old, const struct table *grown, uint32_t moved)
+{
+    struct irr_header h = old->header;
+    uint32_t sizes[2] = {largest_size(&before), largest_size(&after)}, mark = 0;
+    h.capacity = sizes[sizes[0] < sizes[1]] + IRR_LABEL;
+    uint64_t count = (uint64_t)table_bins(grown) * h.capacity;
+    if (count > RACK)
+        return;
+    for (uint32_t i = 0; i < count + PAST; i++)
+        words[i] = right[i] = (uint32_t)random_next();
+    for (int x = 0; x < before.buckets; x++) {
+        if (before.bin[x] == after.bin[x])
+            continue;
+        right[word_at(&after, h.capacity, x)] = right[word_at(&before, h.capacity, x)];
+        check_call(old, h, grown, mark, (struct irr_carry_reply){0, mark + 1, 0});
+        mark++;
+    }
+    check_call(old, h, grown, moved, (struct irr_carry_reply){0, moved, 1});
+    check_call(old, h, grown, moved + 1, (struct irr_carry_reply){IRR_MARK_OUTSIDE, 0, 0});
+    carried_seen += mark;
+}
+
 void check_growth(const struct table *old, const struct table *grown, uint32_t moved)
 {
     uint32_t least = least_moved(old->header.buckets, table_bins(old), grown);
@@ -363,6 +413,7 @@ void check_growth(const struct table *old, const struct table *grown, uint32_t m
     if (count_moved() != moved)
         fault("moved: directory, archive", count_moved(), moved, 0);
     check_rows(old, grown, moved);
+    check_carried(old, grown, moved);
     check_sizes(&after, grown);
     check_places(&after, grown);
     check_lists(&after, grown);
@@ -392,10 +443,11 @@ void check_overfull(const struct table *old, uint32_t buckets, uint32_t bins)
 
 void buckets_summary(void)
 {
-    printf("directory: %" PRIu64 " growths with %" PRIu64 " rows, %" PRIu64 " other maps, %" PRIu64
+    printf("directory: %" PRIu64 " growths with %" PRIu64 " rows, %" PRIu64
+           " of them carried, %" PRIu64 " other maps, %" PRIu64
            " buckets placed and found, %" PRIu64 " lists of buckets, %" PRIu64
            " lines of sheets, %" PRIu64 " growths that overfill a bin\n",
-           growths, rows_seen, maps, places, lists, lines, overfull_seen);
-    if (growths == 0 || rows_seen == 0 || maps == 0 || overfull_seen == 0)
+           growths, rows_seen, carried_seen, maps, places, lists, lines, overfull_seen);
+    if (growths == 0 || rows_seen == 0 || carried_seen == 0 || maps == 0 || overfull_seen == 0)
         fault("the directory was never compared", (uint32_t)growths, (uint32_t)rows_seen, 0);
 }

@@ -12,18 +12,19 @@
 #include "random.h"
 #include "reference.h"
 
-enum { REFUSALS = 35, SHOWN = 10 };
+enum { REFUSALS = 42, SHOWN = 10 };
 
-static const char *const names[CALLS] = {"irr_initial",  "irr_expand", "irr_relocations",
-                                         "irr_place",    "irr_places", "irr_find",
-                                         "irr_bin_size", "irr_room",   "irr_save",
-                                         "irr_load",     "irr_sheet"};
+static const char *const names[CALLS] = {"irr_initial", "irr_expand", "irr_relocations",
+                                         "irr_carry",   "irr_place",  "irr_places",
+                                         "irr_find",    "irr_bin_size", "irr_room",
+                                         "irr_save",    "irr_load",   "irr_sheet"};
 
 /* the refusals that each call can answer; 0 is an accepted call */
 static const signed char possible[CALLS][REFUSALS] = {
     {0, 21, 30, 1, 2, 31, -1},
     {0, 21, 11, 12, 13, 14, 15, 16, 30, 1, 2, 3, 4, 5, 31, 8, -1},
     {0, 11, 12, 13, 14, 15, 16, 30, 1, 2, 3, 4, 5, 31, 9, -1},
+    {0, 11, 12, 13, 14, 15, 16, 30, 1, 2, 3, 4, 5, 31, 40, 41, -1},
     {0, 11, 12, 13, 14, 15, 16, 30, 6, -1},
     {0, 33, 11, 12, 13, 14, 15, 16, 30, 32, 6, -1},
     {0, 11, 12, 13, 14, 15, 16, 30, 7, -1},
@@ -180,7 +181,7 @@ static const char *difference(int table, int room, int buckets, int extra)
     }
     if (buckets && !lent_same(&list))
         return "buckets read";
-    return extra && !lent_same(&more) ? "rows, places or bytes" : NULL;
+    return extra && !lent_same(&more) ? "rows, words, places or bytes" : NULL;
 }
 
 static void show(enum call call, const struct table *t, const uint32_t *asked, const uint32_t *got,
@@ -210,8 +211,8 @@ static uint32_t judge(enum call call, const struct table *t, const uint32_t *ask
 {
     uint32_t got[6], want[6];
     int room = call == INITIAL || call == EXPAND || call == LOAD;
-    int extra = call == RELOCATIONS || call == PLACES || call == SAVE || call == LOAD ||
-                call == SHEET;
+    int extra = call == RELOCATIONS || call == CARRY || call == PLACES || call == SAVE ||
+                call == LOAD || call == SHEET;
     const char *memory = difference(t != NULL, room, call == PLACES, extra);
     memcpy(got, reply, size);
     memcpy(want, expected, size);
@@ -225,7 +226,7 @@ static uint32_t judge(enum call call, const struct table *t, const uint32_t *ask
 #define JUDGE(call, t, a, b, c) \
     judge(call, t, (const uint32_t[]){a, b, c}, &got, &want, sizeof got)
 
-/* THE ELEVEN CALLS */
+/* THE TWELVE CALLS */
 
 uint32_t compare_initial(uint32_t buckets, uint32_t bins, uint32_t capacity, struct table *to)
 {
@@ -266,6 +267,19 @@ uint32_t compare_relocations(const struct table *t, uint32_t buckets, uint32_t b
     struct irr_relocations_reply want = ref_relocations(
         t->header, FOUR(in, REFERENCE), buckets, bins, first, WORDS(&more, REFERENCE));
     return JUDGE(RELOCATIONS, t, buckets, bins, first);
+}
+
+uint32_t compare_carry(const struct table *t, uint32_t buckets, uint32_t bins, size_t words_len,
+                       uint32_t mark)
+{
+    lend_table(t);
+    lent_junk(&more, 4 * words_len);
+    current = CARRY;
+    struct irr_carry_reply got = irr_carry(t->header, FOUR(in, ARCHIVE), buckets, bins,
+                                           WORDS(&more, ARCHIVE), mark);
+    struct irr_carry_reply want = ref_carry(t->header, FOUR(in, REFERENCE), buckets, bins,
+                                            WORDS(&more, REFERENCE), mark);
+    return JUDGE(CARRY, t, buckets, bins, mark);
 }
 
 uint32_t compare_place(const struct table *t, uint32_t bucket)

@@ -8,7 +8,8 @@
 #include "tables.h"
 
 enum call {
-    INITIAL, EXPAND, RELOCATIONS, PLACE, PLACES, FIND, BIN_SIZE, ROOM, SAVE, LOAD, SHEET, CALLS
+    INITIAL, EXPAND, RELOCATIONS, CARRY, PLACE, PLACES, FIND, BIN_SIZE, ROOM, SAVE, LOAD, SHEET,
+    CALLS
 };
 
 void calls_open(uint64_t seed);
@@ -29,6 +30,8 @@ uint32_t compare_expand(const struct table *t, uint32_t buckets, uint32_t bins, 
                         uint32_t *moved);
 uint32_t compare_relocations(const struct table *t, uint32_t buckets, uint32_t bins,
                              uint32_t first, size_t rows_len);
+uint32_t compare_carry(const struct table *t, uint32_t buckets, uint32_t bins, size_t words_len,
+                       uint32_t mark);
 uint32_t compare_place(const struct table *t, uint32_t bucket);
 uint32_t compare_places(const struct table *t, const uint32_t *buckets, size_t buckets_len,
                         size_t places_len);

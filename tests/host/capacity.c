@@ -12,7 +12,7 @@
 /* the greatest capacity, and the most buckets that a bin takes with it */
 enum { P_MOST = 1000000000, B_MOST = 999999992 };
 
-enum { MOST_NUMBERS = 6, ROWS = 4, LISTED = 2 };
+enum { MOST_NUMBERS = 6, ROWS = 4, LISTED = 2, WORDS = 3 * 13 };
 
 struct table {
     struct irr_header header;
@@ -20,10 +20,10 @@ struct table {
     uint32_t ends[IRR_MAX_INTERVALS], blocks[IRR_MAX_INTERVALS], adjustments[IRR_MAX_INTERVALS];
 };
 
-/* all that is lent: a table to read, one to write, rows, a list, places, a file, a sheet */
+/* all that is lent: a table to read, one to write, rows, words, a list, places, a file, a sheet */
 struct lent {
     struct table old, new;
-    uint32_t rows[IRR_ROW * ROWS], list[LISTED], places[2 * LISTED];
+    uint32_t rows[IRR_ROW * ROWS], words[WORDS + 1], list[LISTED], places[2 * LISTED];
     uint8_t file[48], sheet[2 * IRR_LINE + 10];
 };
 
@@ -225,6 +225,9 @@ static void check_all_refuse(uint32_t refusal)
     REFUSED(refusal, irr_relocations(OLD, 100, 50, 0, lent.rows, IRR_ROW * ROWS));
     REFUSED(refusal, irr_relocations(OLD, 0, 0, 0, lent.rows, IRR_ROW * ROWS));
     REFUSED(refusal, irr_relocations(OLD, 100, 50, UINT32_MAX, lent.rows, IRR_ROW * ROWS));
+    REFUSED(refusal, irr_carry(OLD, 12, 3, lent.words, WORDS, 0));
+    REFUSED(refusal, irr_carry(OLD, 0, 0, lent.words, WORDS, 0));
+    REFUSED(refusal, irr_carry(OLD, 100, 50, NULL, 0, UINT32_MAX));
 }
 
 /* 30 of a lent table: below its largest bin and the label, 0, above the limit; before 32, and after
@@ -260,6 +263,27 @@ static void check_lent(void)
     check_all_refuse(30);
 }
 
+/* the rows of (10, 2) to (12, 3) carried, with the words of three bins of the capacity; of the
+ * greatest they are too many */
+static void check_carried(uint32_t capacity)
+{
+    for (uint32_t i = 0; i <= WORDS; i++)
+        lent.words[i] = i;
+    if (capacity == P_MOST) {
+        REFUSED(40, irr_carry(OLD, 12, 3, lent.words, WORDS, 0));
+        REFUSED(40, irr_carry(OLD, 12, 3, lent.words, WORDS, 3));
+        return;
+    }
+    REFUSED(40, irr_carry(OLD, 12, 3, lent.words, WORDS - 1, 0));
+    REFUSED(40, irr_carry(OLD, 12, 3, lent.words, WORDS - 1, 3));
+    REFUSED(41, irr_carry(OLD, 12, 3, lent.words, WORDS, 3));
+    ACCEPTED(irr_carry(OLD, 12, 3, lent.words, WORDS, 0), 1, 0);
+    ACCEPTED(irr_carry(OLD, 12, 3, lent.words, WORDS, 1), 2, 0);
+    ACCEPTED(irr_carry(OLD, 12, 3, lent.words, WORDS, 2), 2, 1);
+    numbers("words of the new bin", lent.words + 33, (const uint32_t[]){33, 12, 25, 36, 37, 38, 39},
+            7);
+}
+
 /* the capacity at its edge, and the greatest: every call accepts the table */
 static void check_lent_right(uint32_t capacity)
 {
@@ -276,6 +300,7 @@ static void check_lent_right(uint32_t capacity)
     ACCEPTED(irr_expand(OLD, 12, 3, NEW), 2, 12, capacity, 2, 2);
     ACCEPTED(irr_relocations(OLD, 12, 3, 0, lent.rows, IRR_ROW * ROWS), 2, 2);
     numbers("rows", lent.rows, (const uint32_t[]){8, 0, 12, 2, 8, 9, 1, 12, 2, 9}, 2 * IRR_ROW);
+    check_carried(capacity);
     lend_grown(capacity);
     ACCEPTED(irr_bin_size(OLD, 2), 4);
     ACCEPTED(irr_sheet(OLD, SHEET_OF(2 * IRR_LINE)), 2 * IRR_LINE);
@@ -355,15 +380,17 @@ static void check_table_order(void)
     }
 }
 
-/* a growth and its move list, refused alike, from whatever row on */
+/* a growth, its move list and its mover, refused alike, from whatever row on */
 static void check_growth_refused(uint32_t refusal, uint32_t buckets, uint32_t bins)
 {
     REFUSED(refusal, irr_expand(OLD, buckets, bins, NEW));
     REFUSED(refusal, irr_relocations(OLD, buckets, bins, 0, lent.rows, IRR_ROW * ROWS));
     REFUSED(refusal, irr_relocations(OLD, buckets, bins, UINT32_MAX, lent.rows, IRR_ROW * ROWS));
+    REFUSED(refusal, irr_carry(OLD, buckets, bins, lent.words, WORDS, 0));
+    REFUSED(refusal, irr_carry(OLD, buckets, bins, NULL, 0, UINT32_MAX));
 }
 
-/* 31 of a growth: 1 to 5 come before it, 9 after it */
+/* 31 of a growth: 1 to 5 come before it, 9, 40 and 41 after it */
 static void check_growths(void)
 {
     lend_small(13);

@@ -1,4 +1,4 @@
-/* The eleven calls written from documents 01 and 02, simple rather than fast; arithmetic is in
+/* The twelve calls written from documents 01 and 02, simple rather than fast; arithmetic is in
  * int64_t. */
 #include "reference.h"
 
@@ -498,7 +498,7 @@ static void write_map(const struct map *m, uint32_t *tops, uint32_t *ends, uint3
     }
 }
 
-/* THE ELEVEN CALLS */
+/* THE TWELVE CALLS */
 
 static struct map before, after;
 
@@ -519,19 +519,27 @@ struct irr_table_reply ref_initial(uint32_t buckets, uint32_t bins, uint32_t cap
     return reply;
 }
 
+/* the refusal of a lent table, or of its growth; where there is none, the maps before and after */
+static uint32_t grown_refusal(const struct view *v, int64_t buckets, int64_t bins)
+{
+    uint32_t refusal = table_refusal(v);
+    if (refusal != 0)
+        return refusal;
+    read_map(v, &before);
+    refusal = growth_refusal(&before, buckets, bins);
+    if (refusal == 0)
+        grow(&before, buckets, bins, &after);
+    return refusal;
+}
+
 struct irr_table_reply ref_expand(struct irr_header header, REF_TABLE, uint32_t buckets,
                                   uint32_t bins, REF_ROOM)
 {
     struct irr_table_reply reply = {0, 0, {0, 0, 0, 0}};
     struct view v = VIEW;
-    reply.refusal = ROOM_SHORT ? 21 : table_refusal(&v);
+    reply.refusal = ROOM_SHORT ? 21 : grown_refusal(&v, buckets, bins);
     if (reply.refusal != 0)
         return reply;
-    read_map(&v, &before);
-    reply.refusal = growth_refusal(&before, buckets, bins);
-    if (reply.refusal != 0)
-        return reply;
-    grow(&before, buckets, bins, &after);
     if (after.interval_count > MOST_INTERVALS) {
         reply.refusal = 8;
         return reply;
@@ -549,14 +557,9 @@ struct irr_relocations_reply ref_relocations(struct irr_header header, REF_TABLE
     struct irr_relocations_reply reply = {0, 0, 0};
     struct view v = VIEW;
     struct page page = {first, (int64_t)(rows_len / 5), rows, 0, 0};
-    reply.refusal = table_refusal(&v);
+    reply.refusal = grown_refusal(&v, buckets, bins);
     if (reply.refusal != 0)
         return reply;
-    read_map(&v, &before);
-    reply.refusal = growth_refusal(&before, buckets, bins);
-    if (reply.refusal != 0)
-        return reply;
-    grow(&before, buckets, bins, &after);
     if (first > count_moves(&before, &after)) {
         reply.refusal = 9;
         return reply;
@@ -564,6 +567,34 @@ struct irr_relocations_reply ref_relocations(struct irr_header header, REF_TABLE
     list_moves(&before, &after, &page);
     reply.written = (uint32_t)page.written;
     reply.total = (uint32_t)page.total;
+    return reply;
+}
+
+/* the word of a place */
+static int64_t word_at(const struct map *m, uint32_t bin, uint32_t position)
+{
+    return bin * m->capacity + position;
+}
+
+struct irr_carry_reply ref_carry(struct irr_header header, REF_TABLE, uint32_t buckets,
+                                 uint32_t bins, uint32_t *words, size_t words_len, uint32_t mark)
+{
+    struct irr_carry_reply reply = {0, 0, 0};
+    struct view v = VIEW;
+    uint32_t row[5];
+    struct page page = {mark, 1, row, 0, 0};
+    reply.refusal = grown_refusal(&v, buckets, bins);
+    if (reply.refusal == 0 && words_len < (size_t)(bins * v.capacity))
+        reply.refusal = 40;
+    if (reply.refusal == 0 && mark > count_moves(&before, &after))
+        reply.refusal = 41;
+    if (reply.refusal != 0)
+        return reply;
+    list_moves(&before, &after, &page);
+    if (page.written == 1)
+        words[word_at(&before, row[3], row[4])] = words[word_at(&before, row[1], row[2])];
+    reply.mark = (uint32_t)(mark + page.written);
+    reply.finished = page.written == 0;
     return reply;
 }
 

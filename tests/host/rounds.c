@@ -4,10 +4,12 @@
 #include <string.h>
 
 #include "calls.h"
+#include "lent.h"
 #include "random.h"
 #include "reference.h"
 
-enum { MOST_LISTED = 700 };
+/* the most buckets in a list; words for which there is room to lend, and a few more */
+enum { MOST_LISTED = 700, LENT_WORDS = LENT_BYTES / 4 - 16 };
 
 static struct table spare;
 
@@ -106,6 +108,33 @@ static void try_relocations(const struct table *t)
                         rows_len);
 }
 
+/* a capacity for words that can be lent: mostly the least that both maps allow, or little more; or
+ * the table's own */
+static uint32_t carried_capacity(const struct table *t, uint32_t buckets, uint32_t bins)
+{
+    uint32_t before = largest_bin(t->header.buckets, table_bins(t));
+    uint32_t after = largest_bin(buckets, bins), least = before > after ? before : after;
+    return once_in(6) ? t->header.capacity : least + IRR_LABEL + (once_in(2) ? below(4) : 0);
+}
+
+static void try_carry(const struct table *t)
+{
+    uint32_t buckets, bins, total, any, less;
+    ask_sizes(t, &buckets, &bins);
+    table_copy(&spare, t);
+    spare.header.capacity = carried_capacity(t, buckets, bins);
+    total = total_rows(&spare, buckets, bins);
+    any = below(total + 1);
+    uint64_t words = (uint64_t)bins * spare.header.capacity;
+    uint32_t exact = words < LENT_WORDS ? (uint32_t)words : LENT_WORDS;
+    less = below(exact);
+    compare_carry(&spare, buckets, bins,
+                  ONE_OF(exact, exact, exact, exact, exact + 1, exact + 9, exact - (exact > 0),
+                         less),
+                  ONE_OF(0, 0, total / 2, total - 1, total - 1, total, total + 1, UINT32_MAX, any,
+                         any, any));
+}
+
 static void try_place(const struct table *t)
 {
     uint32_t b = t->header.buckets, end = t->ends[below(t->intervals_len)], any = below(b);
@@ -196,16 +225,18 @@ static void try_sheet(const struct table *t)
 void round_of_calls(const struct table *t, int times)
 {
     for (int i = 0; i < times; i++) {
-        switch (below(10)) {
+        switch (below(12)) {
         case 0: try_expand(t); break;
         case 1: try_expand(t); break;
         case 2: try_relocations(t); break;
         case 3: try_relocations(t); break;
-        case 4: try_place(t); break;
-        case 5: try_places(t); break;
-        case 6: try_find(t); break;
-        case 7: try_bin_size(t); break;
-        case 8: try_save(t); break;
+        case 4: try_carry(t); break;
+        case 5: try_carry(t); break;
+        case 6: try_place(t); break;
+        case 7: try_places(t); break;
+        case 8: try_find(t); break;
+        case 9: try_bin_size(t); break;
+        case 10: try_save(t); break;
         default: try_sheet(t);
         }
     }

@@ -1,7 +1,8 @@
 #!/bin/sh
-# The host tests: the header alone in C and C++, the symbols of the archive, the examples, abi, capacity, long and compare; the
-# programs a second time under the sanitizers of addresses and of undefined behaviour, which see the tests' code and not the
-# archive's. Takes ARCHIVE, OUT, CC, CXX, CPPFLAGS, CFLAGS, LDFLAGS and LDLIBS from the environment. The status is 0 if none failed.
+# The host tests: the header alone in C and C++, the symbols of the archive, the examples, abi, capacity, carry, cuts, long and
+# compare; the programs a second time under the sanitizers of addresses and of undefined behaviour, which see the tests' code and
+# not the archive's. Takes ARCHIVE, OUT, CC, CXX, CPPFLAGS, CFLAGS, LDFLAGS and LDLIBS from the environment. The status is 0 if
+# none failed.
 set -u
 cd "$(dirname "$0")/../.." || exit 2
 . tests/try.sh
@@ -20,9 +21,9 @@ header() {
     $1 ${CPPFLAGS:-} "-std=$3" -fsyntax-only -pedantic -Wall -Wextra -Werror -x "$2" include/irr.h
 }
 
-# the archive has the eleven calls of the header, and no other symbol that a program could meet
+# the archive has the twelve calls of the header, and no other symbol that a program could meet
 symbols() {
-    for call in bin_size expand find initial load place places relocations room save sheet; do
+    for call in bin_size carry expand find initial load place places relocations room save sheet; do
         echo "T irr_$call"
     done > "$OUT/calls"
     nm -g --defined-only "$ARCHIVE" > "$OUT/symbols" || return 1
@@ -55,9 +56,9 @@ host() {
     build "$name" "$flags" "$@" && "$OUT/$name"
 }
 
-# builds and runs the example, with the flags $1
+# builds and runs the example $1, with the flags $2; it must print what is in its file
 example() {
-    build rack "$1" examples/rack.c && "$OUT/rack" > "$OUT/rack.stdout" && diff examples/rack.stdout "$OUT/rack.stdout"
+    build "$1-example" "$2" "examples/$1.c" && "$OUT/$1-example" > "$OUT/$1.stdout" && diff "examples/$1.stdout" "$OUT/$1.stdout"
 }
 
 # the sheet example refuses its input, the file $2, with the line $1: nothing else is printed, and the status is 1
@@ -146,17 +147,29 @@ try "header in C++" header "$CXX" c++ c++11
 try "symbols" symbols
 try "no state" stateless
 COMPARE='compare rounds buckets calls tables lent random reference directory'
-try "example" example ""
+CARRY='carry lent tables random reference'
+CUTS='cuts tables random reference'
+try "example" example rack ""
+try "carry example" example carry ""
 try "sheet example" sheet ""
 try "abi" host abi "" abi
 try "capacity" host capacity "" capacity
+# shellcheck disable=SC2086
+try "carry" host carry "" $CARRY
+# shellcheck disable=SC2086
+try "cuts" host cuts "" $CUTS
 try "long" host long "" long
 # shellcheck disable=SC2086
 try "compare" host compare "" $COMPARE
-try "example, sanitized" sanitized example "$SANITIZE"
+try "example, sanitized" sanitized example rack "$SANITIZE"
+try "carry example, sanitized" sanitized example carry "$SANITIZE"
 try "sheet example, sanitized" sanitized sheet "$SANITIZE"
 try "abi, sanitized" sanitized host abi "$SANITIZE" abi
 try "capacity, sanitized" sanitized host capacity "$SANITIZE" capacity
+# shellcheck disable=SC2086
+try "carry, sanitized" sanitized host carry "$SANITIZE" $CARRY
+# shellcheck disable=SC2086
+try "cuts, sanitized" sanitized host cuts "$SANITIZE" $CUTS
 try "long, sanitized" sanitized host long "$SANITIZE" long
 # shellcheck disable=SC2086
 try "compare, sanitized" sanitized host compare "$SANITIZE" $COMPARE
