@@ -34,7 +34,7 @@ fn copy_word(words: &mut [u32], from: usize, to: usize)
     words[to] = words[from];
 }
 
-// The row of order number `mark`: the word of its old place copied to its new one.
+// A row of the move list: the word of its old place copied to its new one.
 fn carry_row(
     header: Header,
     tops: &[u32],
@@ -44,14 +44,23 @@ fn carry_row(
     buckets: u32,
     bins: u32,
     words: &mut [u32],
-    mark: u32,
+    order: u32,
 )
     requires { ⌜ Ready (growth header (arraysNow tops ends blocks adjustments) (sizes buckets bins)) (now words) ⌝ }
-    requires { ⌜ mark < total (growth header (arraysNow tops ends blocks adjustments) (sizes buckets bins)) ⌝ }
+    requires { ⌜ order < total (growth header (arraysNow tops ends blocks adjustments) (sizes buckets bins)) ⌝ }
     ensures { λ _.
-        ⌜ now (words .exit) ≡ copied (growth header (given tops ends blocks adjustments) (sizes buckets bins)) mark (now (words .entry)) ⌝ }
+        ⌜ now (words .exit) ≡ copied (growth header (given tops ends blocks adjustments) (sizes buckets bins)) order (now (words .entry)) ⌝ }
 {
-    let places = row_places(header, tops, ends, blocks, adjustments, buckets, bins, mark);
+    let places = row_places(
+        header,
+        tops,
+        ends,
+        blocks,
+        adjustments,
+        buckets,
+        bins,
+        order,
+    );
     let from = word_at(header.capacity, places.old.bin, places.old.position);
     let to = word_at(header.capacity, places.new.bin, places.new.position);
     copy_word(words, from, to)
@@ -78,6 +87,17 @@ fn refused(refusal: u32) -> CarryReply
         refusal,
         mark: 0,
         finished: 0,
+    }
+}
+
+// The reply that accepts it.
+fn accepted(mark: u32, finished: u32) -> CarryReply
+    ensures { λ r. ⌜ r ≡ record { refusal = 0; mark = mark; finished = finished } ⌝ }
+{
+    CarryReply {
+        refusal: 0,
+        mark,
+        finished,
     }
 }
 
@@ -117,11 +137,7 @@ pub fn carry(
         return refused(wrong);
     }
     if total == mark {
-        return CarryReply {
-            refusal: 0,
-            mark,
-            finished: 1,
-        };
+        return accepted(mark, 1);
     }
     carry_row(
         header,
@@ -134,9 +150,5 @@ pub fn carry(
         words,
         mark,
     );
-    CarryReply {
-        refusal: 0,
-        mark: mark + 1,
-        finished: 0,
-    }
+    accepted(mark + 1, 0)
 }

@@ -101,12 +101,17 @@ refused-requires-3 c κs = search needs
 returns-3 : tie.Need-returns-3
 returns-3 c = refused-by _ _ _ _ _ (c .refused3 .ensures) (c .before .if3 .taken) (tested (c .before .before))
 
+accepted-requires : tie.Need-accepted-requires
+accepted-requires c κs = search needs
+
 returns-4 : tie.Need-returns-4
 returns-4 c =
-    let known = c .before .before .before .before in
-    let e = entry (c .before .before) in
-    let end : total (g e) ≤ start e .args .mark = omega (arith, counted known, c .if4 .taken) in
-    (sym (reply-end _ _ _ (passed (c .before)) end), sym (words-end _ _ _ (passed (c .before)) end))
+    let at = c .before in
+    let e = entry (at .before .before) in
+    let end : total (g e) ≤ start e .args .mark = omega (arith, counted (at .before .before .before .before), at .if4 .taken) in (
+      c .accepted .ensures ∙ sym (reply-end _ _ _ (passed (at .before)) end),
+      sym (words-end _ _ _ (passed (at .before)) end),
+    )
 
 -- there is the row
 some
@@ -120,20 +125,25 @@ some c =
 carry-row-requires : tie.Need-carry-row-requires
 carry-row-requires c κs = (accepted-ready _ _ _ (passed (c .before .before)) .0, some (c .before))
 
-add-t21 : tie.Need-add-t21
-add-t21 c =
+add-accepted : tie.Need-add-accepted
+add-accepted c =
     let at = c .before .before .before .before in
     let other = at .if4 .left in
     omega (arith, some at, counted (at .before .before .before .before))
+
+accepted-requires-2 : tie.Need-accepted-requires-2
+accepted-requires-2 c κs = search needs
 
 same-length : tie.Need-same-length
 same-length c = search needs
 
 returns-5 : tie.Need-returns-5
 returns-5 c =
-    let at = c .before .before .before .before in
-    let ok = passed (at .before) in
-    (sym (reply-more _ _ _ ok (some at)), c .before .before .carry-row .ensures ∙ sym (words-copied _ _ _ ok (some at)))
+    let at = c .before .before .before .before .before in
+    let ok = passed (at .before) in (
+      c .accepted2 .ensures ∙ sym (reply-more _ _ _ ok (some at)),
+      c .before .before .before .carry-row .ensures ∙ sym (words-copied _ _ _ ok (some at)),
+    )
 
 pub carry-spec : {M : Type 1} → statement M
 carry-spec =
@@ -150,8 +160,10 @@ carry-spec =
     last-refusal-requires
     refused-requires-3
     returns-3
+    accepted-requires
     returns-4
     carry-row-requires
-    add-t21
+    add-accepted
+    accepted-requires-2
     same-length
     returns-5)

@@ -23,8 +23,8 @@ g c =
 -- the words of the row's places, as the code has them
 words
     : (c : tie.After-word-at2)
-    → (c .before .word-at .result ≡ source (g (start c)) (start c .args .mark))
-    × (c .word-at2 .result ≡ target (g (start c)) (start c .args .mark))
+    → (c .before .word-at .result ≡ source (g (start c)) (start c .args .order))
+    × (c .word-at2 .result ≡ target (g (start c)) (start c .args .order))
 unfolding source target rowAt
 words c =
     let p = start c .args .header .capacity in
