@@ -54,6 +54,13 @@ module _ (src dst : ℕ → ℕ) (n : ℕ) (ws : List ℕ) (a : Apart src dst n 
       ∙ ap (λ r. getD ws (src r) 0) (sym same))
       (below-or q m)
 
+  pub near-long : (m : ℕ) (zs : List ℕ) → Near src dst n ws m zs → length zs ≡ length ws
+  near-long m zs h =
+      ⊎-elim
+      (λ e. ap length e ∙ copies-long m)
+      (λ e. ap length (e .2) ∙ length-set (copies src dst ws m) (dst m) (e .0) ∙ copies-long m)
+      h
+
   -- any word there leaves it so
   pub near-put : (m : ℕ) (zs : List ℕ) (v : ℕ) → m < n → Near src dst n ws m zs → Near src dst n ws m (set zs (dst m) v)
   near-put m zs v l h =

@@ -1,13 +1,14 @@
 -- Laws of one call: what each refusal makes of its reply and its words, and what an accepted call leaves. Assumes nothing.
 use Prim.Native.Nat.{ℕ, _+_, _≤_, _<_, min}
-use mathlib.Core.Path.{_≡_, refl, sym, _∙_, ap}
+use mathlib.Core.Path.{_≡_, refl, sym, _∙_, ap, ap₂}
 use mathlib.Core.Logic.{⊎-elim}
-use mathlib.Core.List.{List}
+use mathlib.Core.Bool.{Bool}
+use mathlib.Core.List.{List, [], _∷_}
 use native.Mathlib.Omega.{arith}
-use lib.ListN.{length, getD, set, length-set}
+use lib.ListN.{getD, set}
 use borrow.Author.Tests.{lt-ltb, le-ltb}
 use Rattle.model.specs.Basics.{if_then_else_}
-use Rattle.model.specs.Refusal.{first}
+use Rattle.model.specs.Refusal.{first, orderPast}
 use Rattle.model.specs.Calls.{tableTests, growthTests}
 use Rattle.model.specs.declared.reply.CarryReply.{CarryReply}
 use Rattle.model.proofs.Counts.{below-or}
@@ -22,12 +23,27 @@ use Rattle.mover.specs.Carry.{
   target,
   put,
   copied,
+  wordsShort,
   carryTests,
   carryRefusal,
   carryReply,
   carryWords,
 }
 use Rattle.mover.proofs.Spots.{accepted-ready}
+
+-- THE LAST TESTS, and the copy, as the code has them
+
+module _ (g : Growth) (ws : List ℕ) (m : ℕ) where
+  pub last-tests
+      : (r : ℕ) (short past : Bool) → r ≡ first ((40, short) ∷ (41, past) ∷ []) → short ≡ wordsShort g ws
+      → past ≡ orderPast (total g) m → r ≡ first (carryTests g ws m)
+  unfolding carryTests
+  last-tests r short past d e f = d ∙ ap₂ (λ a b. first ((40, a) ∷ (41, b) ∷ [])) e f
+
+  pub copy-made
+      : (left : List ℕ) (i k : ℕ) → left ≡ set ws k (getD ws i 0) → i ≡ source g m → k ≡ target g m → left ≡ copied g m ws
+  unfolding copied put
+  copy-made left i k d e f = d ∙ ap₂ (λ i k. set ws k (getD ws i 0)) e f
 
 -- REFUSED
 
@@ -76,7 +92,7 @@ module _ (g : Growth) (ws : List ℕ) (m : ℕ) (ok : carryRefusal g ws m ≡ 0)
 
   pub reply-more : m < total g → carryReply g ws m ≡ record { refusal = 0; mark = m + 1; finished = 0 }
   unfolding carryReply if_then_else_
-  reply-more l = accepted _ _ _ ok ∙ rw (lt-ltb m (total g) l)
+  reply-more l = accepted _ _ _ ok ∙ rw (lt-ltb m (total g) l) refl
 
   -- and at the total nothing
   pub words-end : total g ≤ m → carryWords g ws m ≡ ws
@@ -85,20 +101,21 @@ module _ (g : Growth) (ws : List ℕ) (m : ℕ) (ok : carryRefusal g ws m ≡ 0)
 
   pub reply-end : total g ≤ m → carryReply g ws m ≡ record { refusal = 0; mark = m; finished = 1 }
   unfolding carryReply if_then_else_
-  reply-end l = accepted _ _ _ ok ∙ rw (le-ltb m (total g) l)
+  reply-end l = accepted _ _ _ ok ∙ rw (le-ltb m (total g) l) refl
 
-  -- so its mark is one more, up to the total
+  -- so where the code has the numbers of the reply as z
+  module _ (z : CarryReply) (n f : ℕ) (e : z ≡ record { refusal = 0; mark = n; finished = f }) where
+    pub more-by : m < total g → n ≡ m + 1 → f ≡ 0 → z ≡ carryReply g ws m
+    more-by l same none = e ∙ rw (same, none) (sym (reply-more l))
+
+    pub end-by : total g ≤ m → n ≡ m → f ≡ 1 → z ≡ carryReply g ws m
+    end-by l same one = e ∙ rw (same, one) (sym (reply-end l))
+
+  -- its mark is one more, up to the total
   pub mark-after : carryReply g ws m .mark ≡ min (total g) (m + 1)
   mark-after =
       let (_, within) = accepted-ready g ws m ok in
       ⊎-elim
       (λ l. ap (λ (r : CarryReply). r .mark) (reply-more l) ∙ omega arith)
       (λ l. ap (λ (r : CarryReply). r .mark) (reply-end l) ∙ omega arith)
-      (below-or m (total g))
-
-  pub words-long : length (carryWords g ws m) ≡ length ws
-  words-long =
-      ⊎-elim
-      (λ l. ap length (words-more l) ∙ length-set ws (target g m) _)
-      (λ l. ap length (words-end l))
       (below-or m (total g))

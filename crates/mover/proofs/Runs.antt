@@ -5,7 +5,7 @@ use mathlib.Core.Logic.{inl, ⊎-elim}
 use mathlib.Core.Bool.{true}
 use mathlib.Core.List.{List}
 use native.Mathlib.Omega.{arith}
-use lib.ListN.{length, getD, set, length-set}
+use lib.ListN.{length, getD, set}
 use borrow.Author.Tests.{lt-ltb, le-ltb}
 use Rattle.model.specs.Basics.{if_then_else_}
 use Rattle.model.specs.Expansion.{differs}
@@ -43,8 +43,8 @@ use Rattle.mover.specs.Run.{
 }
 use Rattle.mover.specs.Claims.{Moves, order, CarryOne, CarryNone, CarryMarks, CarryReads, CarryOn, CarryEnds, CutsReach}
 use Rattle.mover.specs.Ready.{Ready}
-use Rattle.mover.proofs.Replies.{words-more, reply-more, words-end, reply-end, mark-after, words-long}
-use Rattle.mover.proofs.Copies.{copies, Apart, Near, near-put, near-copy, near-end, near-kept, near-done}
+use Rattle.mover.proofs.Replies.{words-more, reply-more, words-end, reply-end, mark-after}
+use Rattle.mover.proofs.Copies.{copies, Apart, Near, near-long, near-put, near-copy, near-end, near-kept, near-done}
 use Rattle.mover.proofs.Spots.{
   accepted-ready,
   ready-accepted,
@@ -82,51 +82,6 @@ carry-none g ws m = (
 
 -- RUNS
 
--- what every state of a run keeps of its first
-pub record Kept (g : Growth) (b st : Stored) : Type 0 where
-  pub ready : Ready g (st .words)
-  pub within : st .mark ≤ total g
-  pub long : length (st .words) ≡ length (b .words)
-
-kept-ok : (g : Growth) (b st : Stored) → Kept g b st → carryRefusal g (st .words) (st .mark) ≡ 0
-kept-ok g b st k = ready-accepted g (st .words) (st .mark) (k .ready) (k .within)
-
--- other words, as many, and another mark
-kept-as
-    : (g : Growth) (b st : Stored) → Kept g b st → (ws : List ℕ) → length ws ≡ length (st .words) → (m : ℕ) → m ≤ total g
-    → Kept g b (stored ws m)
-kept-as g b st k ws e m l =
-    record {
-      ready = record { sound = k .ready .sound; asked = k .ready .asked; long = omega (arith, k .ready .long) };
-      within = l;
-      long = e ∙ k .long;
-    }
-
-mark-within : (g : Growth) (b st : Stored) → Kept g b st → markOf g st ≤ total g
-mark-within g b st k = omega (arith, mark-after g (st .words) (st .mark) (kept-ok g b st k))
-
-kept : {g : Growth} {content : ℕ → ℕ} {b st : Stored} → Run g content b st → Kept g b st
-unfolding put carried
-kept {g} {content} {b} (begun h) =
-    let (ready, within) = accepted-ready g (b .words) (b .mark) (h .accepted) in
-    record { ready = ready; within = within; long = refl }
-kept {g} {content} {b} (whole {st} r) =
-    let k = kept r in
-    kept-as g b st k _ (words-long g (st .words) (st .mark) (kept-ok g b st k)) _ (mark-within g b st k)
-kept {g} {content} {b} (cutCopy {st} v l r) =
-    let k = kept r in
-    kept-as g b st k _ (length-set (st .words) (target g (st .mark)) v) (st .mark) (k .within)
-kept {g} {content} {b} (cutMark {st} m e r) =
-    let k = kept r in
-    kept-as g b st k _ (words-long g (st .words) (st .mark) (kept-ok g b st k)) m
-    (⊎-elim (λ old. omega (arith, k .within)) (λ new. omega (arith, mark-within g b st k)) e)
-
-pub carry-marks : CarryMarks
-carry-marks g content b st r =
-    let k = kept r in
-    let ok = kept-ok g b st k in
-    (ok, omega (arith, mark-after g (st .words) (st .mark) ok, k .within), k .within)
-
 -- how a run began
 began : {g : Growth} {content : ℕ → ℕ} {b st : Stored} → Run g content b st → Begun g content b
 began (begun h) = h
@@ -134,42 +89,79 @@ began (whole r) = began r
 began (cutCopy v l r) = began r
 began (cutMark m e r) = began r
 
+-- a state of a run from b on: the words are those after as many uncut copies as the mark says, but for the next destination
+record At (g : Growth) (b st : Stored) : Type 0 where
+  near : Near (source g) (target g) (total g) (b .words) (st .mark) (st .words)
+  within : st .mark ≤ total g
+
 module _ (g : Growth) (content : ℕ → ℕ) (b : Stored) (start : Begun g content b) where
+  ready₀ : Ready g (b .words)
+  ready₀ = accepted-ready g (b .words) (b .mark) (start .accepted) .0
+
   spots : Apart (source g) (target g) (total g) (length (b .words))
-  spots = apart g (b .words) (accepted-ready g (b .words) (b .mark) (start .accepted) .0)
+  spots = apart g (b .words) ready₀
 
-  -- in every state the words are those after as many uncut copies as the mark says, but for the next destination
-  abbrev By : Stored → Type 0
-  By st = Near (source g) (target g) (total g) (b .words) (st .mark) (st .words)
+  -- so the call that follows is accepted
+  at-ok : (st : Stored) → At g b st → carryRefusal g (st .words) (st .mark) ≡ 0
+  at-ok st h =
+      let long = near-long _ _ _ _ spots (st .mark) (st .words) (h .near) in
+      ready-accepted g (st .words) (st .mark)
+      (record { sound = ready₀ .sound; asked = ready₀ .asked; long = omega (arith, ready₀ .long) })
+      (h .within)
 
-  near-whole : (st : Stored) → Kept g b st → By st → By (stored (wordsOf g st) (markOf g st))
-  near-whole st k h =
-      let ok = kept-ok g b st k in
-      ⊎-elim
-      (λ l.
-      rw (reply-more g (st .words) (st .mark) ok l)
-      (inl (words-more g (st .words) (st .mark) ok l ∙ near-copy _ _ _ _ spots (st .mark) (st .words) l h)))
-      (λ l. rw (reply-end g (st .words) (st .mark) ok l, words-end g (st .words) (st .mark) ok l) h)
-      (below-or (st .mark) (total g))
+  -- and what it stores is such a state again, with the new mark and with the old
+  at-new : (st : Stored) → At g b st → At g b (stored (wordsOf g st) (markOf g st))
+  at-new st h =
+      let ok = at-ok st h in
+      record {
+        near =
+            ⊎-elim
+            (λ l.
+            rw (reply-more g (st .words) (st .mark) ok l)
+            (inl (words-more g (st .words) (st .mark) ok l ∙ near-copy _ _ _ _ spots (st .mark) (st .words) l (h .near))))
+            (λ l. rw (reply-end g (st .words) (st .mark) ok l, words-end g (st .words) (st .mark) ok l) (h .near))
+            (below-or (st .mark) (total g));
+        within = omega (arith, mark-after g (st .words) (st .mark) ok);
+      }
 
-  near-again : (st : Stored) → Kept g b st → By st → By (stored (wordsOf g st) (st .mark))
-  near-again st k h =
-      let ok = kept-ok g b st k in
-      ⊎-elim
-      (λ l. rw (words-more g (st .words) (st .mark) ok l) (near-put _ _ _ _ spots (st .mark) (st .words) _ l h))
-      (λ l. rw (words-end g (st .words) (st .mark) ok l) h)
-      (below-or (st .mark) (total g))
+  at-old : (st : Stored) → At g b st → At g b (stored (wordsOf g st) (st .mark))
+  at-old st h =
+      let ok = at-ok st h in
+      record {
+        near =
+            ⊎-elim
+            (λ l. rw (words-more g (st .words) (st .mark) ok l) (near-put _ _ _ _ spots (st .mark) (st .words) _ l (h .near)))
+            (λ l. rw (words-end g (st .words) (st .mark) ok l) (h .near))
+            (below-or (st .mark) (total g));
+        within = h .within;
+      }
 
-  near-run : {st : Stored} → Run g content b st → By st
+  run-at : {st : Stored} → Run g content b st → At g b st
   unfolding copies put carried
-  near-run (begun h) = rw (start .first) (inl refl)
-  near-run (whole {st} r) = near-whole st (kept r) (near-run r)
-  near-run (cutCopy {st} v l r) = near-put _ _ _ _ spots (st .mark) (st .words) v l (near-run r)
-  near-run (cutMark {st} m e r) =
+  run-at (begun h) =
+      record { near = rw (start .first) (inl refl); within = accepted-ready g (b .words) (b .mark) (start .accepted) .1 }
+  run-at (whole {st} r) = at-new st (run-at r)
+  run-at (cutCopy {st} v l r) =
+      record {
+        near = near-put _ _ _ _ spots (st .mark) (st .words) v (omega (arith, l)) (run-at r .near);
+        within = run-at r .within;
+      }
+  run-at (cutMark {st} m e r) =
       ⊎-elim
-      (λ old. subst (λ q. By (stored (wordsOf g st) q)) (sym old) (near-again st (kept r) (near-run r)))
-      (λ new. subst (λ q. By (stored (wordsOf g st) q)) (sym new) (near-whole st (kept r) (near-run r)))
+      (λ old. subst (λ q. At g b (stored (wordsOf g st) q)) (sym old) (at-old st (run-at r)))
+      (λ new. subst (λ q. At g b (stored (wordsOf g st) q)) (sym new) (at-new st (run-at r)))
       e
+
+-- what holds in every state
+at : {g : Growth} {content : ℕ → ℕ} {b st : Stored} → Run g content b st → At g b st
+at {g} {content} {b} r = run-at g content b (began r) r
+
+ok : {g : Growth} {content : ℕ → ℕ} {b st : Stored} → Run g content b st → carryRefusal g (st .words) (st .mark) ≡ 0
+ok {g} {content} {b} {st} r = at-ok g content b (began r) st (at r)
+
+pub carry-marks : CarryMarks
+carry-marks g content b st r =
+    (ok r, omega (arith, mark-after g (st .words) (st .mark) (ok r), at r .within), at r .within)
 
 -- uncut calls go on with a run, and their marks rise up to the total
 calls-run
@@ -182,19 +174,18 @@ calls-mark
     : {g : Growth} {content : ℕ → ℕ} {b st : Stored} (n : ℕ) → Run g content b st
     → calls g n st .mark ≡ min (total g) (st .mark + n)
 unfolding calls carried
-calls-mark {g} {content} {b} {st} zero r = omega (arith, kept r .within)
+calls-mark {g} {content} {b} {st} zero r = omega (arith, at r .within)
 calls-mark {g} {content} {b} {st} (suc n) r =
     let c = calls g n st in
-    let k = kept (calls-run n r) in
-    omega (arith, calls-mark n r, mark-after g (c .words) (c .mark) (kept-ok g b c k))
+    omega (arith, calls-mark n r, mark-after g (c .words) (c .mark) (ok (calls-run n r)))
 
 -- at the total the words are those after all copies
 end-words
     : (g : Growth) (content : ℕ → ℕ) (b st : Stored) → Run g content b st → total g ≤ st .mark
     → st .words ≡ copies (source g) (target g) (b .words) (total g)
 end-words g content b st r l =
-    let same : st .mark ≡ total g = omega (arith, kept r .within) in
-    near-end _ _ _ _ (spots g content b (began r)) (st .mark) (st .words) l (near-run g content b (began r) r)
+    let same : st .mark ≡ total g = omega (arith, at r .within) in
+    near-end _ _ _ _ (spots g content b (began r)) (st .mark) (st .words) l (at r .near)
     ∙ ap (copies (source g) (target g) (b .words)) same
 
 -- THE CLAIMS
@@ -222,13 +213,13 @@ module _ (g : Growth) (content : ℕ → ℕ) (b st : Stored) (r : Run g content
   reads-new : Moves g x → order g x < st .mark → reads (newTable g) (st .words) x ≡ content x
   reads-new m k =
       ap (λ i. getD (st .words) i 0) (sym (target-of g x m))
-      ∙ near-done _ _ _ _ (spots g content b start) (st .mark) (order g x) (st .words) (kept r .within) k (near-run g content b start r)
+      ∙ near-done _ _ _ _ (spots g content b start) (st .mark) (order g x) (st .words) (at r .within) k (at r .near)
       ∙ ap (λ i. getD (b .words) i 0) (source-of g x m)
       ∙ start .placed x (m .0)
 
   reads-old : x < g .header .buckets → reads (oldTable g) (st .words) x ≡ content x
   reads-old l =
-      near-kept _ _ _ _ (spots g content b start) (st .mark) _ (st .words) (kept r .within) (near-run g content b start r)
+      near-kept _ _ _ _ (spots g content b start) (st .mark) _ (st .words) (at r .within) (at r .near)
       (λ q k. old-no-target g (b .words) ready q k x l)
       ∙ start .placed x l
 
@@ -246,28 +237,26 @@ carry-reads g content b st r = (reads-new g content b st r, reads-old g content 
 pub carry-ends : CarryEnds
 unfolding carried
 carry-ends g content b st r m =
-    let ok = kept-ok g b st (kept r) in
-    let reply = reply-end g (st .words) (st .mark) ok m in (
+    let reply = reply-end g (st .words) (st .mark) (ok r) m in (
       λ x l. reads-end g content b st r x l m,
-      stored-same (carried g st) st (words-end g (st .words) (st .mark) ok m) (ap (λ (z : CarryReply). z .mark) reply),
+      stored-same (carried g st) st (words-end g (st .words) (st .mark) (ok r) m) (ap (λ (z : CarryReply). z .mark) reply),
       ap (λ (z : CarryReply). z .finished) reply,
     )
 
 pub cuts-reach : CutsReach
 unfolding carried put
 cuts-reach g content b st r x m e =
-    let ok = kept-ok g b st (kept r) in
     let below : st .mark < total g = omega (arith, order-row g x m .0) in
-    let at : target g (st .mark) ≡ wordOf (newTable g) x = ap (target g) (sym e) ∙ target-of g x m in
+    let spot : target g (st .mark) ≡ wordOf (newTable g) x = ap (target g) (sym e) ∙ target-of g x m in
     let word : getD (st .words) (source g (st .mark)) 0 ≡ content x =
     ap (λ q. getD (st .words) (source g q) 0) (sym e)
     ∙ ap (λ i. getD (st .words) i 0) (source-of g x m)
     ∙ reads-old g content b st r x (m .0) in
     let right : wordsOf g st ≡ set (st .words) (wordOf (newTable g) x) (content x) =
-    words-more g (st .words) (st .mark) ok below ∙ rw (at, word) in (
-      λ v. subst (λ i. Run g content b (stored (set (st .words) i v) (st .mark))) at (cutCopy v below r),
+    words-more g (st .words) (st .mark) (ok r) below ∙ rw (spot, word) in (
+      λ v. subst (λ i. Run g content b (stored (set (st .words) i v) (st .mark))) spot (cutCopy v below r),
       subst (λ ws. Run g content b (stored ws (st .mark))) right (cutMark (st .mark) (inl refl) r),
       subst (λ (z : Stored). Run g content b z)
-          (stored-same (carried g st) _ right (ap (λ (z : CarryReply). z .mark) (reply-more g (st .words) (st .mark) ok below)))
+          (stored-same (carried g st) _ right (ap (λ (z : CarryReply). z .mark) (reply-more g (st .words) (st .mark) (ok r) below)))
           (whole r),
     )

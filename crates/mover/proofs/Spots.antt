@@ -8,6 +8,7 @@ use native.Mathlib.Nat.{suc-mul, mul-le-mul-right, div-add-mod', mod-lt}
 use native.Mathlib.Omega.{arith}
 use lib.ListN.{length, getD}
 use borrow.Author.Tests.{ltb-false, le-ltb, eqb-true, not-false}
+use Rattle.model.specs.Basics.{bit, count}
 use Rattle.model.specs.Limits.{label}
 use Rattle.model.specs.Table.{bins, table}
 use Rattle.model.specs.Place.{bin, position}
@@ -15,7 +16,7 @@ use Rattle.model.specs.Refusal.{orderPast}
 use Rattle.model.specs.Expansion.{someFall, expanded, differs}
 use Rattle.model.specs.Relocations.{row, rows}
 use Rattle.model.specs.Calls.{tableTests, growthTests, rowsOf}
-use Rattle.model.proofs.Counts.{below-or}
+use Rattle.model.proofs.Counts.{bit-le, below-or, sum-upper}
 use Rattle.model.proofs.Refusals.{first-number, first-both, first-after, first-pass, first-none}
 use Rattle.model.proofs.Ranks.{count-rises, count-reaches}
 use Rattle.model.proofs.Places.{bin-of}
@@ -74,9 +75,9 @@ unfolding carryRefusal carryTests wordsShort
 accepted-ready g ws m e =
     let (tests, e₁) = first-both (tableTests (g .header) (g .arrays)) _ (table-numbered (g .header) (g .arrays)) e in
     let (growth, e₂) = first-both (growthTests (oldTable g) (g .sizes)) _ (growth-numbered (oldTable g) (g .sizes)) e₁ in
-    let (short, e₃) = first-number 40 _ _ (omega arith) e₂ in
+    let (short, e₃) = first-number 40 (wordsShort g ws) _ (omega arith) e₂ in
     let (past, e₄) = first-number 41 _ _ (omega arith) e₃ in (
-      record { sound = sound-iff (g .header) (g .arrays) .0 tests; asked = growth; long = ltb-false _ _ short },
+      record { sound = sound-iff (g .header) (g .arrays) .0 tests; asked = growth; long = ltb-false (length ws) (g .sizes .bins * g .header .capacity) short },
       ltb-false _ _ past,
     )
 
@@ -95,6 +96,16 @@ ready-accepted g ws m r l =
 pub total-moved : (g : Growth) → total g ≡ order g (g .header .buckets)
 unfolding total order rowsOf rows table
 total-moved g = rows-order (oldTable g) (newTable g) (g .header .buckets)
+
+-- so at most as many as the buckets
+pub total-most : (g : Growth) → total g ≤ g .header .buckets
+unfolding order count
+total-most g =
+    omega (
+      arith,
+      total-moved g,
+      sum-upper (λ x. bit (differs (oldTable g) (newTable g) x)) (g .header .buckets) 1 (λ x l. bit-le _),
+    )
 
 -- a moved bucket's row stands at its order number
 pub order-row : OrderRow

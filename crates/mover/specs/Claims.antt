@@ -1,16 +1,17 @@
 -- What is proved of the mover: of one call, and of every run. Each claim is a type. Assumes nothing.
-use Prim.Native.Nat.{ℕ, _+_, _≤_, _<_}
+use Prim.Native.Nat.{ℕ, _+_, _*_, _≤_, _<_}
 use mathlib.Core.Path.{_≡_}
 use mathlib.Core.Logic.{_↔_}
 use mathlib.Core.Bool.{true}
 use mathlib.Core.List.{List, [], _∷_}
-use lib.ListN.{set}
+use lib.ListN.{length, set}
 use Rattle.model.specs.Basics.{count}
 use Rattle.model.specs.Table.{arrays, sizes}
 use Rattle.model.specs.Place.{bin, position}
+use Rattle.model.specs.Refusal.{first}
 use Rattle.model.specs.Expansion.{differs}
 use Rattle.model.specs.Relocations.{row}
-use Rattle.model.specs.Calls.{relocationsRefusal}
+use Rattle.model.specs.Calls.{tableTests, growthTests, relocationsRefusal}
 use Rattle.mover.specs.Carry.{Growth, growth, oldTable, newTable, rowAt, total, put, carryRefusal, carryReply, carryWords}
 use Rattle.mover.specs.Run.{Stored, stored, wordOf, reads, wordsOf, markOf, carried, calls, Run}
 
@@ -27,12 +28,24 @@ OrderRow =
     (g : Growth) (x : ℕ) → Moves g x
     → (order g x < total g) × (rowAt g (order g x) ≡ row (oldTable g) (newTable g) x)
 
+-- the checks of the move list, but for 9, pass
+abbrev pub Checks : Growth → Type 0
+Checks g = (first (tableTests (g .header) (g .arrays)) ≡ 0) × (first (growthTests (oldTable g) (g .sizes)) ≡ 0)
+
 -- the mover is refused as the move list is, but for 9 of the one, and 40 and 41 of the other
 abbrev pub CarryAlike : Type 0
 CarryAlike =
     (g : Growth) (ws : List ℕ) (m q r : ℕ)
     → (r ≡ 0 → ⊥) → (r ≡ 9 → ⊥) → (r ≡ 40 → ⊥) → (r ≡ 41 → ⊥)
     → (carryRefusal g ws m ≡ r) ↔ (relocationsRefusal (g .header) (g .arrays) (g .sizes) q ≡ r)
+
+-- 40 is given exactly where those checks pass and the array is shorter than the new bins × P, and 41 exactly where it is not and
+-- the mark is above the total
+abbrev pub CarryRefused : Type 0
+CarryRefused =
+    (g : Growth) (ws : List ℕ) (m : ℕ)
+    → ((carryRefusal g ws m ≡ 40) ↔ (Checks g × (length ws < g .sizes .bins * g .header .capacity)))
+    × ((carryRefusal g ws m ≡ 41) ↔ (Checks g × (g .sizes .bins * g .header .capacity ≤ length ws) × (total g < m)))
 
 -- where a call is accepted, every position of the new map is below P, and every bin below the new number of bins: also where
 -- the new table would have too many intervals, which the mover does not ask
@@ -129,6 +142,7 @@ CarryWorked =
 pub record CarryClaims : Type 0 where
   pub orderRow : OrderRow
   pub carryAlike : CarryAlike
+  pub carryRefused : CarryRefused
   pub carryFits : CarryFits
   pub carryOne : CarryOne
   pub carryNone : CarryNone

@@ -90,13 +90,13 @@ fn refused(refusal: u32) -> CarryReply
     }
 }
 
-// The reply that accepts it.
-fn accepted(mark: u32, finished: u32) -> CarryReply
-    ensures { λ r. ⌜ r ≡ record { refusal = 0; mark = mark; finished = finished } ⌝ }
+// The reply that accepts it, with the mark to store.
+fn accepted(next: u32, finished: u32) -> CarryReply
+    ensures { λ r. ⌜ r ≡ record { refusal = 0; mark = next; finished = finished } ⌝ }
 {
     CarryReply {
         refusal: 0,
-        mark,
+        mark: next,
         finished,
     }
 }

@@ -1,7 +1,7 @@
 -- `mover::carry` meets its contract: the tests in their order, then the row. Assumes nothing.
 use Prim.Native.Nat.{ℕ, _≤_, _<_}
-use mathlib.Core.Path.{_≡_, refl, sym, _∙_, ap₂}
-use mathlib.Core.List.{List, [], _∷_}
+use mathlib.Core.Path.{_≡_, refl, sym, _∙_, ap}
+use mathlib.Core.List.{List}
 use native.Mathlib.Nat.{add-zero}
 use native.Mathlib.Omega.{arith}
 use lib.Dec.{ltb}
@@ -12,9 +12,9 @@ use Rattle.model.specs.Refusal.{first}
 use Rattle.model.specs.Calls.{tableTests, growthTests, rowsOf}
 use Rattle.model.proofs.Soundness.{sound-iff}
 use Rattle.model.proofs.Wells.{lent-tops}
-use Rattle.mover.specs.Carry.{Growth, growth, oldTable, total, wordAt, wordsShort, carryTests, carryRefusal}
-use Rattle.mover.proofs.Spots.{accepted-ready}
-use Rattle.mover.proofs.Replies.{refused-by, by-table, by-growth, by-last, words-copied, reply-more, words-end, reply-end}
+use Rattle.mover.specs.Carry.{Growth, growth, oldTable, total, wordAt, wordsShort, carryRefusal}
+use Rattle.mover.proofs.Spots.{accepted-ready, total-most}
+use Rattle.mover.proofs.Replies.{refused-by, by-table, by-growth, by-last, last-tests, words-copied, words-end, more-by, end-by}
 use Rattle.mover.proofs.carry.Statement.{statement}
 use Rattle.mover.proofs.carry.Tie as tie
 
@@ -50,13 +50,12 @@ counted c = c .relocation-count .ensures _ _ _ (sound-iff _ _ .0 (tests (c .befo
 tested
     : (c : tie.After-last-refusal)
     → c .last-refusal .result ≡ carryRefusal (g (entry c)) (words (entry c)) (start (entry c) .args .mark)
-unfolding carryTests wordsShort wordAt
+unfolding wordsShort wordAt
 tested c =
     let known = c .before .before in
-    c .last-refusal .ensures
-    ∙ ap₂ (λ n k. first ((40, ltb (length (words (entry c))) n) ∷ (41, ltb k (start (entry c) .args .mark)) ∷ []))
-    (c .before .word-at .ensures ∙ add-zero _)
-    (counted known)
+    last-tests (g (entry c)) (words (entry c)) (start (entry c) .args .mark) _ _ _ (c .last-refusal .ensures)
+    (ap (ltb (length (words (entry c)))) (c .before .word-at .ensures ∙ add-zero _))
+    (ap (λ k. ltb k (start (entry c) .args .mark)) (counted known))
     ∙ by-last _ _ _ 0 (sym (tests (entry c))) refl 0 (sym (asked (known .before))) refl
 
 passed : (c : tie.Else3) → carryRefusal (g (entry (c .before))) (words (entry (c .before))) (start (entry (c .before)) .args .mark) ≡ 0
@@ -109,7 +108,7 @@ returns-4 c =
     let at = c .before in
     let e = entry (at .before .before) in
     let end : total (g e) ≤ start e .args .mark = omega (arith, counted (at .before .before .before .before), at .if4 .taken) in (
-      c .accepted .ensures ∙ sym (reply-end _ _ _ (passed (at .before)) end),
+      end-by _ _ _ (passed (at .before)) _ _ _ (c .accepted .ensures) end (omega arith) (omega arith),
       sym (words-end _ _ _ (passed (at .before)) end),
     )
 
@@ -128,8 +127,8 @@ carry-row-requires c κs = (accepted-ready _ _ _ (passed (c .before .before)) .0
 add-accepted : tie.Need-add-accepted
 add-accepted c =
     let at = c .before .before .before .before in
-    let other = at .if4 .left in
-    omega (arith, some at, counted (at .before .before .before .before))
+    let (ready, _) = accepted-ready _ _ _ (passed (at .before)) in
+    omega (arith, some at, total-most (g (entry (at .before .before))), ready .sound .formed .bucketLimit)
 
 accepted-requires-2 : tie.Need-accepted-requires-2
 accepted-requires-2 c κs = search needs
@@ -141,7 +140,7 @@ returns-5 : tie.Need-returns-5
 returns-5 c =
     let at = c .before .before .before .before .before in
     let ok = passed (at .before) in (
-      c .accepted2 .ensures ∙ sym (reply-more _ _ _ ok (some at)),
+      more-by _ _ _ ok _ _ _ (c .accepted2 .ensures) (some at) (omega arith) (omega arith),
       c .before .before .before .carry-row .ensures ∙ sym (words-copied _ _ _ ok (some at)),
     )
 

@@ -1,12 +1,12 @@
 -- `mover::carry_row` meets its contract: the words of the row's two places. Assumes nothing.
-use mathlib.Core.Path.{_≡_, _∙_, ap, ap₂}
+use mathlib.Core.Path.{_≡_, _∙_, ap}
 use native.Mathlib.Omega.{arith}
-use lib.ListN.{getD, set}
 use denote.Ref.{now}
 use borrow.Author.Needs.{needs}
 use Rattle.model.specs.Table.{arrays, sizes}
 use Rattle.row_places.specs.declared.RowPlaces.{RowPlaces}
-use Rattle.mover.specs.Carry.{Growth, growth, total, rowAt, wordAt, source, target, put, copied}
+use Rattle.mover.specs.Carry.{Growth, growth, total, rowAt, wordAt, source, target}
+use Rattle.mover.proofs.Replies.{copy-made}
 use Rattle.mover.proofs.Spots.{source-below, target-below}
 use Rattle.mover.proofs.carry_row.Statement.{statement}
 use Rattle.mover.proofs.carry_row.Tie as tie
@@ -50,18 +50,18 @@ copy-word-requires c κs =
     let at = c .before in
     let (ready, below) = start at .pre in
     let (from, to) = words at in
-    (omega (arith, source-below _ _ ready _ below), omega (arith, target-below _ _ ready _ below))
+    let read = source-below _ _ ready _ below in
+    let write = target-below _ _ ready _ below in
+    (omega arith, omega arith)
 
 same-length : tie.Need-same-length
 same-length c = search needs
 
 returns : tie.Need-returns
-unfolding copied put
 returns c =
     let at = c .before .before .before .before in
     let (from, to) = words at in
-    c .before .before .copy-word .ensures
-    ∙ ap₂ (λ i k. set (now (start at .args .words)) k (getD (now (start at .args .words)) i 0)) from to
+    copy-made (g (start at)) (now (start at .args .words)) (start at .args .order) _ _ _ (c .before .before .copy-word .ensures) from to
 
 pub carry-row-spec : {M : Type 1} → statement M
 carry-row-spec =

@@ -1,5 +1,5 @@
 -- `mover::claims` meets its contract: a proof of each claim. Assumes nothing.
-use Rattle.mover.proofs.Alike.{carry-alike}
+use Rattle.mover.proofs.Alike.{carry-alike, carry-refused}
 use Rattle.mover.proofs.Spots.{order-row, carry-fits}
 use Rattle.mover.proofs.Runs.{carry-one, carry-none, carry-marks, carry-reads, carry-on, carry-ends, cuts-reach}
 use Rattle.mover.proofs.Worked.{carry-worked}
@@ -11,6 +11,7 @@ returns c =
     record {
       orderRow = order-row;
       carryAlike = carry-alike;
+      carryRefused = carry-refused;
       carryFits = carry-fits;
       carryOne = carry-one;
       carryNone = carry-none;

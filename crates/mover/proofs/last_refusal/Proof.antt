@@ -5,13 +5,17 @@ use Rattle.mover.proofs.last_refusal.Statement.{statement}
 use Rattle.mover.proofs.last_refusal.Tie as tie
 
 returns : tie.Need-returns
-returns c = sym (first-here _ _ (c .if1 .taken))
+returns c = sym (first-here (40, c .before .args .short) _ (c .if1 .taken))
 
 returns-2 : tie.Need-returns-2
-returns-2 c = sym (first-skip _ _ (c .before .if1 .left) ∙ first-here _ _ (c .if2 .taken))
+returns-2 c = sym (first-skip (40, c .before .before .args .short) _ (c .before .if1 .left) ∙ first-here (41, c .before .before .args .past) _ (c .if2 .taken))
 
 returns-3 : tie.Need-returns-3
-returns-3 c = sym (first-skip _ _ (c .before .if1 .left) ∙ first-skip _ _ (c .if2 .left) ∙ first-none)
+returns-3 c =
+    sym
+    (first-skip (40, c .before .before .args .short) _ (c .before .if1 .left)
+    ∙ first-skip (41, c .before .before .args .past) _ (c .if2 .left)
+    ∙ first-none)
 
 pub last-refusal-spec : {M : Type 1} → statement M
 last-refusal-spec = tie.close (tie.spec returns returns-2 returns-3)

@@ -1,8 +1,8 @@
 -- `mover::word_at` meets its contract. Assumes nothing.
 use Prim.Native.Nat.{ℕ, _*_, _≤_, _<_}
+use mathlib.Core.Path.{refl}
 use native.Mathlib.Omega.{arith}
 use native.Mathlib.Nat.{mul-le-mul}
-use borrow.Author.Needs.{needs}
 use Rattle.mover.specs.Carry.{wordAt}
 use Rattle.mover.proofs.word_at.Statement.{statement}
 use Rattle.mover.proofs.word_at.Tie as tie
@@ -15,14 +15,20 @@ small a b l k =
     mul-le-mul x y
 
 mul-result : tie.Need-mul-result
-mul-result c = omega (arith, small (c .args .bin) (c .args .capacity) (omega arith) (omega arith))
+mul-result c =
+    let some = small (c .args .bin) (c .args .capacity) (omega arith) (omega arith) in
+    let other = small (c .args .position) (c .args .capacity) (omega arith) (omega arith) in
+    omega arith
 
 add-result : tie.Need-add-result
-add-result c = omega (arith, small (c .args .bin) (c .args .capacity) (omega arith) (omega arith))
+add-result c =
+    let some = small (c .args .bin) (c .args .capacity) (omega arith) (omega arith) in
+    let other = small (c .args .position) (c .args .capacity) (omega arith) (omega arith) in
+    omega arith
 
 returns : tie.Need-returns
 unfolding wordAt
-returns c = search needs
+returns c = refl
 
 pub word-at-spec : {M : Type 1} → statement M
 word-at-spec = tie.close (tie.spec mul-result add-result returns)
