@@ -1,12 +1,14 @@
 -- The mover is refused as the move list is, and then by 40 and 41. Assumes nothing.
-use Prim.Native.Nat.{ℕ, _≤_, _<_}
-use mathlib.Core.Path.{_≡_, sym, _∙_}
+use Prim.Native.Nat.{ℕ, _*_, _≤_, _<_}
+use mathlib.Core.Path.{_≡_, refl, sym, _∙_}
 use mathlib.Core.Logic.{⊎-elim}
-use mathlib.Core.Bool.{Bool}
+use mathlib.Core.Bool.{Bool, true}
 use mathlib.Core.List.{List, [], _∷_, _++_}
 use native.Mathlib.Decide.{ℕ-discrete}
 use native.Mathlib.Omega.{arith}
 use borrow.Author.Tests.{ltb-true, ltb-false, lt-ltb, le-ltb}
+use lib.ListN.{length}
+use Rattle.model.specs.Basics.{if_then_else_}
 use Rattle.model.specs.Table.{Shape, Table, Arrays}
 use Rattle.model.specs.Refusal.{Test, first, orderPast}
 use Rattle.model.specs.Calls.{tableTests, sizeTests, growthTests, orderTests, relocationsRefusal}
@@ -18,23 +20,12 @@ use Rattle.model.proofs.Expanded.{first-only, growth-alike}
 use Rattle.mover.specs.Carry.{Growth, oldTable, total, wordsShort, carryTests, carryRefusal}
 use Rattle.mover.specs.Claims.{Checks, CarryAlike, CarryRefused}
 
--- two tests bring about their own numbers alone
-first-two
-    : (k n : ℕ) (b c : Bool) (r : ℕ) → (r ≡ 0 → ⊥) → (r ≡ k → ⊥) → (r ≡ n → ⊥) → first ((k, b) ∷ (n, c) ∷ []) ≡ r → ⊥
-first-two k n b c r none one two e =
-    ⊎-elim
-    (λ t. one (sym e ∙ first-here (k, b) _ (t .0)))
-    (λ f. first-only n c r none two (sym (first-skip (k, b) _ (f .0)) ∙ e))
-    (bit-cases b)
-
-pub carry-alike : CarryAlike
-unfolding carryRefusal carryTests relocationsRefusal orderTests
-carry-alike g ws m q r none nine forty more = (
-  growth-alike (g .header) (g .arrays) (g .sizes) _ _ r (λ z. absurd (first-two 40 41 _ _ r none forty more z)),
-  growth-alike (g .header) (g .arrays) (g .sizes) _ _ r (λ z. absurd (first-only 9 _ r none nine z)),
-)
-
 -- 40 AND 41
+
+-- too few words: 40, whatever the mark is
+forty : (g : Growth) (ws : List ℕ) (m : ℕ) → wordsShort g ws ≡ true → first (carryTests g ws m) ≡ 40
+unfolding carryTests first if_then_else_
+forty g ws m e = rw e refl
 
 -- tests whose numbers are below r bring about none from r on
 under : (n : ℕ) (b : Bool) (ts : List Test) (r : ℕ) → n < r → first ts < r → first ((n, b) ∷ ts) < r
@@ -88,9 +79,9 @@ carry-refused g ws m = (
     λ e.
         let (c, end) = last g ws m 40 (omega arith) e in (
           c,
-          ⊎-elim (λ t. ltb-true _ _ (t .0)) (λ f. absurd (first-only 41 _ 40 (λ z. omega arith) (λ z. omega arith) (sym (first-skip (40, wordsShort g ws) _ (f .0)) ∙ end))) (bit-cases (wordsShort g ws)),
+          ⊎-elim (λ t. ltb-true (length ws) (g .sizes .bins * g .header .capacity) (t .0)) (λ f. absurd (first-only 41 _ 40 (λ z. omega arith) (λ z. omega arith) (sym (first-skip (40, wordsShort g ws) _ (f .0)) ∙ end))) (bit-cases (wordsShort g ws)),
         ),
-    λ c. back g ws m (c .0) ∙ first-here (40, wordsShort g ws) _ (lt-ltb _ _ (c .1)),
+    λ c. back g ws m (c .0) ∙ forty g ws m (lt-ltb _ _ (c .1)),
   ),
   (
     λ e.
@@ -105,4 +96,22 @@ carry-refused g ws m = (
         ∙ first-skip (40, wordsShort g ws) _ (le-ltb _ _ (c .1))
         ∙ first-here (41, orderPast (total g) m) _ (lt-ltb _ _ (c .2)),
   ),
+)
+
+-- AS THE MOVE LIST
+
+-- two tests bring about their own numbers alone
+first-two
+    : (k n : ℕ) (b c : Bool) (r : ℕ) → (r ≡ 0 → ⊥) → (r ≡ k → ⊥) → (r ≡ n → ⊥) → first ((k, b) ∷ (n, c) ∷ []) ≡ r → ⊥
+first-two k n b c r none one two e =
+    ⊎-elim
+    (λ t. one (sym e ∙ first-here (k, b) _ (t .0)))
+    (λ f. first-only n c r none two (sym (first-skip (k, b) _ (f .0)) ∙ e))
+    (bit-cases b)
+
+pub carry-alike : CarryAlike
+unfolding carryRefusal carryTests relocationsRefusal orderTests
+carry-alike g ws m q r none nine forty more = (
+  growth-alike (g .header) (g .arrays) (g .sizes) _ _ r (λ z. absurd (first-two 40 41 _ _ r none forty more z)),
+  growth-alike (g .header) (g .arrays) (g .sizes) _ _ r (λ z. absurd (first-only 9 _ r none nine z)),
 )
