@@ -1,4 +1,4 @@
--- The tops that a growth reads, and arrays of 65 numbers, one for each block, as the contracts cite them. Assumes nothing.
+-- The tops that a growth reads, and arrays with a number for each block, as the contracts cite them. Assumes nothing.
 use Prim.Native.Nat.{ℕ, _≤_, _<_}
 use mathlib.Core.Path.{_≡_}
 use mathlib.Core.List.{List}
@@ -7,6 +7,7 @@ use Rattle.model.specs.Basics.{before}
 use Rattle.model.specs.Limits.{maxBlocks}
 use Rattle.model.specs.Table.{Shape, Table}
 use Rattle.model.specs.Lent.{TopsFormed, lent}
+use Rattle.model.specs.Due.{dueOfBlock}
 use Rattle.model.specs.Refusal.{first}
 use Rattle.model.specs.Expansion.{has, dueAfter}
 use Rattle.model.specs.Calls.{growthTests}
@@ -24,6 +25,12 @@ pub record TopsWithin (tops : List ℕ) (count bins : ℕ) : Type 0 where
   pub rise : (j : ℕ) → j < count → before tops j < getD tops j 0
   pub within : before tops count ≤ bins
   pub some : 1 ≤ bins
+
+-- the first `count` entries of `dues` are what the blocks with these tops are due, and the others are those given
+pub record Dues (s : Shape) (tops : List ℕ) (count : ℕ) (given dues : List ℕ) : Type 0 where
+  pub cells : length dues ≡ length given
+  pub done : (j : ℕ) → j < count → getD dues j 0 ≡ dueOfBlock s tops j
+  pub kept : (j : ℕ) → count ≤ j → getD dues j 0 ≡ getD given j 0
 
 -- what each block is due after a growth; 0 past the last block
 abbrev pub DuesAfter : Table → Shape → List ℕ → Type 0

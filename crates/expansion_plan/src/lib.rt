@@ -2,16 +2,15 @@
 ghost use Prim.Native.Nat.{ℕ, _<_, _≤_};
 ghost use mathlib.Core.List.{List};
 ghost use mathlib.Core.Path.{_≡_};
-ghost use lib.ListN.{length, getD, take, replicate};
+ghost use lib.ListN.{length, getD, replicate};
 ghost use Rattle.model.specs.Lent.{TopsFormed, lent};
 ghost use Rattle.model.specs.Limits.{maxBlocks};
 ghost use Rattle.model.specs.Table.{Shape, arrays, interval, sizes};
-ghost use Rattle.model.specs.Due.{dueOfBlock};
 ghost use Rattle.model.specs.Refusal.{first};
 ghost use Rattle.model.specs.Sound.{Formed};
 ghost use Rattle.model.specs.Expansion.{newTops, someFall, plan};
 ghost use Rattle.model.specs.Calls.{growthTests};
-ghost use Rattle.expansion_plan.specs.Shares.{TopsAsked, TopsWithin, DuesBefore, DuesAfter, IntervalAt};
+ghost use Rattle.expansion_plan.specs.Shares.{TopsAsked, TopsWithin, Dues, DuesBefore, DuesAfter, IntervalAt};
 use model::limits::BLOCKS;
 use model::limits::MAX_BLOCKS;
 use model::plan::Action;
@@ -64,15 +63,11 @@ pub fn blocks_after(h: Header, tops: &[u32], bins: u32) -> u32
     h.block_count
 }
 
-// What each of the first `count` blocks is due in a map of the given sizes, written over zeros.
-fn block_dues(tops: &[u32], count: usize, buckets: u32, bins: u32, dues: &mut [u32; BLOCKS])
+// What each of the first `count` blocks is due in a map of the given sizes, written over the first entries.
+pub fn block_dues(tops: &[u32], count: usize, buckets: u32, bins: u32, dues: &mut [u32])
     requires { ⌜ TopsWithin (now tops) count bins ⌝ }
-    requires { ⌜ now dues ≡ replicate maxBlocks 0 ⌝ }
-    ensures cells { λ _. ⌜ length (now (dues .exit)) ≡ maxBlocks ⌝ }
-    ensures due { λ _.
-        ⌜
-        ((j : ℕ) → j < 65 → getD (now (dues .exit)) j 0 ≡ dueOfBlock (sizes buckets bins) (take count (now (tops .entry))) j)
-        ⌝ }
+    requires { ⌜ count ≤ length (now dues) ⌝ }
+    ensures { λ _. ⌜ Dues (sizes buckets bins) (now (tops .entry)) count (now (dues .entry)) (now (dues .exit)) ⌝ }
 {
     let quotient = buckets / bins;
     let remainder = buckets % bins;

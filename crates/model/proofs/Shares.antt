@@ -7,18 +7,8 @@ use mathlib.Core.List.{List}
 use native.Mathlib.Nat.{mul-le-mul-right, div-add-mod, le-of-lt}
 use native.Mathlib.Decide.{ℕ-discrete}
 use native.Mathlib.Omega.{arith}
-use lib.ListN.{
-  length,
-  getD,
-  take,
-  set,
-  replicate,
-  length-set,
-  length-replicate,
-  getD-replicate,
-  List·getD-eq-default,
-}
-use lib.Seq.{length-take-le, getD-take, getD-set-same, getD-set-other}
+use lib.ListN.{length, getD, set, List·getD-eq-default}
+use lib.Seq.{getD-set-same, getD-set-other}
 use borrow.Author.Tests.{le-leb}
 use Rattle.model.specs.Basics.{sum, before}
 use Rattle.model.specs.Limits.{maxBlocks}
@@ -29,7 +19,7 @@ use Rattle.model.specs.Balance.{dueBelow}
 use Rattle.model.proofs.Counts.{below-or}
 use Rattle.model.proofs.Dues.{dues-below, dues-sum, block-closed}
 use Rattle.model.proofs.Rules.{not-all}
-use Rattle.model.proofs.Wells.{due-same, Well, some-bins}
+use Rattle.model.proofs.Wells.{Well, some-bins}
 use Rattle.model.proofs.Growths.{
   Accepted,
   tops-same,
@@ -57,53 +47,6 @@ unfolding dueOfBlock dueOfBins blockBins sum
 due-past s tops j l =
     let none : blockBins tops j ≡ 0 = omega (arith, List·getD-eq-default tops 0 l) in
     ap (dueOfBins s (firstBin tops j)) none
-
--- THE ARRAY
-
--- the blocks below j have their dues, and the others 0
-pub record Dues (s : Shape) (tops : List ℕ) (j : ℕ) (dues : List ℕ) : Type 0 where
-  pub cells : length dues ≡ maxBlocks
-  pub done : (k : ℕ) → k < j → getD dues k 0 ≡ dueOfBlock s tops k
-  pub todo : (k : ℕ) → j ≤ k → getD dues k 0 ≡ 0
-
-module _ (s : Shape) (tops : List ℕ) where
-  pub dues-none : Dues s tops 0 (replicate maxBlocks 0)
-  dues-none =
-      record {
-        cells = length-replicate {A = ℕ} maxBlocks 0;
-        done = λ k l. absurd (omega arith);
-        todo =
-            λ k l.
-            ⊎-elim
-            (λ b. getD-replicate maxBlocks k 0 0 b)
-            (λ b. List·getD-eq-default (replicate maxBlocks 0) 0 {n = k} (omega (arith, length-replicate {A = ℕ} maxBlocks 0)))
-            (below-or k maxBlocks);
-      }
-
-  -- one block more
-  pub dues-more
-      : (j v : ℕ) (dues : List ℕ) → Dues s tops j dues → j < maxBlocks → v ≡ dueOfBlock s tops j
-      → Dues s tops (j + 1) (set dues j v)
-  dues-more j v dues d l e =
-      record {
-        cells = length-set dues j v ∙ d .cells;
-        done =
-            λ k b.
-            elim (ℕ-discrete k j) [
-              | yes y ↦ rw y (getD-set-same dues j v 0 (omega (arith, d .cells)) ∙ e)
-              | no n ↦ getD-set-other dues j k v 0 n ∙ d .done k (omega arith)
-            ];
-        todo = λ k b. getD-set-other dues j k v 0 (λ y. omega arith) ∙ d .todo k (omega arith);
-      }
-
-  -- all of them
-  pub dues-whole
-      : (n : ℕ) (dues : List ℕ) → Dues s tops n dues → n ≤ length tops → (j : ℕ) → getD dues j 0 ≡ dueOfBlock s (take n tops) j
-  dues-whole n dues d l j =
-      ⊎-elim
-      (λ b. d .done j b ∙ due-same s tops (take n tops) n (λ i k. sym (getD-take n tops i 0 k)) j b)
-      (λ b. d .todo j b ∙ sym (due-past s (take n tops) j (omega (arith, length-take-le n tops l))))
-      (below-or j n)
 
 -- BEFORE A GROWTH
 

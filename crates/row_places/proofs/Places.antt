@@ -2,7 +2,7 @@
 use Prim.Native.Nat.{ℕ, suc, _-_, _^_, _<_}
 use mathlib.Core.Path.{_≡_, refl, sym, _∙_, ap}
 use mathlib.Core.Bool.{true}
-use mathlib.Core.List.{List, []}
+use mathlib.Core.List.{[]}
 use native.Mathlib.Nat.{le-refl, sub-zero}
 use native.Mathlib.Omega.{arith}
 use lib.ListN.{getD}
@@ -20,9 +20,9 @@ use Rattle.model.proofs.Growths.{accepted, some-more}
 use Rattle.model.proofs.Rows.{row-at, rows-falls, end-within, lent-place, moved-place}
 use Rattle.table.specs.Placing.{placing, placingAt, Places, slotOf}
 use Rattle.table.specs.declared.Placing.{Placing}
-use Rattle.row_places.specs.Rows.{Drains, RowBucket, placesOf}
+use Rattle.row_places.specs.Rows.{Listed, RowBucket, placesOf}
 
-module _ (h : Header) (a : Arrays) (s : Shape) (dues : List ℕ) (q : ℕ) (d : Drains h a s dues q) (i x : ℕ) (f : RowBucket h a s q i x) where
+module _ (h : Header) (a : Arrays) (s : Shape) (q : ℕ) (d : Listed h a s q) (i x : ℕ) (f : RowBucket h a s q i x) where
   falls : someFall (table h a) s ≡ true
   unfolding rowsOf
   falls = rows-falls h a s (d .formed) (d .asked) q (d .below)

@@ -7,7 +7,6 @@ use native.Mathlib.Numerals.{add-one}
 use native.Mathlib.Omega.{arith}
 use lib.ListN.{length, getD}
 use Rattle.model.specs.Basics.{sum, count, before}
-use Rattle.model.specs.Limits.{maxBlocks}
 use Rattle.model.specs.Table.{Shape, Table, Arrays, table}
 use Rattle.model.specs.Expansion.{dueAfter, someFall, expanded, differs}
 use Rattle.model.specs.Relocations.{rows}
@@ -31,7 +30,7 @@ pub record Walk (h : Header) (a : Arrays) (s : Shape) (q i start left : ℕ) : T
 module _ (h : Header) (a : Arrays) (s : Shape) (dues : List ℕ) (q : ℕ) (d : Drains h a s dues q) where
   falls : someFall (table h a) s ≡ true
   unfolding rowsOf
-  falls = rows-falls h a s (d .formed) (d .asked) q (d .below)
+  falls = rows-falls h a s (d .row .formed) (d .row .asked) q (d .row .below)
 
   pub walk-starts : Walk h a s q 0 0 q
   unfolding before count sum
@@ -43,11 +42,11 @@ module _ (h : Header) (a : Arrays) (s : Shape) (dues : List ℕ) (q : ℕ) (d : 
     unfolding rowsOf rows table
     walk-ends l =
         let same : i ≡ h .«interval_count» = omega (arith, w .within) in
-        let last : start ≡ h .buckets = omega (arith, w .starts, ap (before (a .ends)) same, d .formed .lastEnd) in
+        let last : start ≡ h .buckets = omega (arith, w .starts, ap (before (a .ends)) same, d .row .formed .lastEnd) in
         omega (
           arith,
           w .counted,
-          d .below,
+          d .row .below,
           ap (orderAt h a s) last,
           rows-order (table h a) (expanded (table h a) s) (h .buckets),
         )
@@ -60,11 +59,11 @@ module _ (h : Header) (a : Arrays) (s : Shape) (dues : List ℕ) (q : ℕ) (d : 
       abbrev p : ℕ
       p = min end (max start (getD dues (getD (a .blocks) i 0) 0 + getD (a .adjustments) i 0))
 
-      pub walk-bounds : (getD (a .adjustments) i 0 ≤ start) × (start ≤ end) × (getD (a .blocks) i 0 < maxBlocks)
+      pub walk-bounds : (getD (a .adjustments) i 0 ≤ start) × (start ≤ end) × (getD (a .blocks) i 0 < h .«block_count»)
       walk-bounds = (
-        omega (arith, w .starts, adjustment-most h a (d .formed) i l),
-        omega (arith, w .starts, d .formed .endsRise i l),
-        omega (arith, d .formed .blocksBelow i l, d .formed .blockLimit),
+        omega (arith, w .starts, adjustment-most h a (d .row .formed) i l),
+        omega (arith, w .starts, d .row .formed .endsRise i l),
+        d .row .formed .blocksBelow i l,
       )
 
       here : Cut (dueAfter (table h a) s (getD (a .blocks) i 0)) (before (a .ends) i) (lentInterval a i) p
@@ -83,7 +82,7 @@ module _ (h : Header) (a : Arrays) (s : Shape) (dues : List ℕ) (q : ℕ) (d : 
       order-at x b e =
           omega (
             arith,
-            part-order h a s (d .formed) (d .asked) falls i p l here x b e,
+            part-order h a s (d .row .formed) (d .row .asked) falls i p l here x b e,
             ap (orderAt h a s) (w .starts),
           )
 
@@ -94,7 +93,7 @@ module _ (h : Header) (a : Arrays) (s : Shape) (dues : List ℕ) (q : ℕ) (d : 
             interval = l;
             start = omega (arith, w .starts, walk-bounds);
             end = omega arith;
-            moves = part-moves h a s (d .formed) (d .asked) falls i p l here (p + left) (omega arith) (omega arith);
+            moves = part-moves h a s (d .row .formed) (d .row .asked) falls i p l here (p + left) (omega arith) (omega arith);
             order = omega (arith, order-at (p + left) (omega arith) (omega arith), w .counted);
           }
 

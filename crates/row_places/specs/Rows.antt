@@ -8,18 +8,22 @@ use Rattle.model.specs.Basics.{count, before}
 use Rattle.model.specs.Table.{Shape, Arrays, table}
 use Rattle.model.specs.Refusal.{first}
 use Rattle.model.specs.Sound.{Formed}
-use Rattle.model.specs.Expansion.{expanded, differs}
+use Rattle.model.specs.Expansion.{dueAfter, expanded, differs}
 use Rattle.model.specs.Calls.{growthTests, rowsOf}
 use Rattle.model.specs.declared.table.Header.{Header}
-use Rattle.expansion_plan.specs.Shares.{DuesAfter}
 use Rattle.row_places.specs.declared.RowPlaces.{RowPlaces}
 
--- an accepted growth of a formed table, what each block is due after it, and the order number q of one of its rows
-pub record Drains (h : Header) (a : Arrays) (s : Shape) (dues : List ℕ) (q : ℕ) : Type 0 where
+-- an accepted growth of a formed table, and the order number q of one of its rows
+pub record Listed (h : Header) (a : Arrays) (s : Shape) (q : ℕ) : Type 0 where
   pub formed : Formed h a
   pub asked : first (growthTests (table h a) s) ≡ 0
-  pub after : DuesAfter (table h a) s dues
   pub below : q < length (rowsOf h a s)
+
+-- and what each old block is due after it
+pub record Drains (h : Header) (a : Arrays) (s : Shape) (dues : List ℕ) (q : ℕ) : Type 0 where
+  pub row : Listed h a s q
+  pub long : h .«block_count» ≤ length dues
+  pub after : (j : ℕ) → j < h .«block_count» → getD dues j 0 ≡ dueAfter (table h a) s j
 
 -- bucket x, of interval i, is that of row q: it moves, and so many moved buckets are below it
 pub record RowBucket (h : Header) (a : Arrays) (s : Shape) (q i x : ℕ) : Type 0 where

@@ -7,8 +7,8 @@ ghost use Rattle.model.specs.Lent.{LentFormed, arraysNow, given, tableNow};
 ghost use Rattle.model.specs.Table.{Shape, arrays, sizes};
 ghost use Rattle.model.specs.Refusal.{first};
 ghost use Rattle.model.specs.Calls.{growthTests, rowsOf};
-ghost use Rattle.row_places.specs.Rows.{Drains, RowBucket, placesOf};
-use expansion_plan::dues_after;
+ghost use Rattle.row_places.specs.Rows.{Listed, Drains, RowBucket, placesOf};
+use expansion_plan::block_dues;
 use model::limits::BLOCKS;
 use model::table::Header;
 use table::Placing;
@@ -16,6 +16,9 @@ use table::Slot;
 use table::bin_count;
 use table::placing_of;
 use table::slot_of;
+
+// The old blocks that a small array of dues does for: it is cleared by two stores.
+const FEW: usize = 8;
 
 // A bucket, and the interval that has it.
 struct Moved {
@@ -49,7 +52,7 @@ fn bucket_at(
     ends: &[u32],
     blocks: &[u32],
     adjustments: &[u32],
-    dues: &[u32; BLOCKS],
+    dues: &[u32],
     order: u32,
 ) -> Moved
     requires { ⌜ ((tops : List ℕ) × (s : Shape) × Drains h (arrays tops (now ends) (now blocks) (now adjustments)) s (now dues) order) ⌝ }
@@ -80,6 +83,68 @@ fn bucket_at(
     }
 }
 
+// That bucket, by an array with room for the dues of the old blocks.
+fn bucket_by(
+    h: Header,
+    tops: &[u32],
+    ends: &[u32],
+    blocks: &[u32],
+    adjustments: &[u32],
+    buckets: u32,
+    bins: u32,
+    order: u32,
+    dues: &mut [u32],
+) -> Moved
+    requires { ⌜ Listed h (arraysNow tops ends blocks adjustments) (sizes buckets bins) order ⌝ }
+    requires { ⌜ h .«block_count» ≤ length (now dues) ⌝ }
+    ensures { λ r. ⌜ RowBucket h (given tops ends blocks adjustments) (sizes buckets bins) order (r .interval) (r .bucket) ⌝ }
+{
+    block_dues(tops, h.block_count as usize, buckets, bins, dues);
+    bucket_at(h, ends, blocks, adjustments, dues, order)
+}
+
+// That bucket, by an array of its own.
+fn bucket_of(
+    h: Header,
+    tops: &[u32],
+    ends: &[u32],
+    blocks: &[u32],
+    adjustments: &[u32],
+    buckets: u32,
+    bins: u32,
+    order: u32,
+) -> Moved
+    requires { ⌜ Listed h (arraysNow tops ends blocks adjustments) (sizes buckets bins) order ⌝ }
+    ensures { λ r. ⌜ RowBucket h (given tops ends blocks adjustments) (sizes buckets bins) order (r .interval) (r .bucket) ⌝ }
+{
+    if h.block_count as usize <= FEW {
+        let mut dues = [0u32; FEW];
+        return bucket_by(
+            h,
+            tops,
+            ends,
+            blocks,
+            adjustments,
+            buckets,
+            bins,
+            order,
+            &mut dues,
+        );
+    }
+    let mut dues = [0u32; BLOCKS];
+    bucket_by(
+        h,
+        tops,
+        ends,
+        blocks,
+        adjustments,
+        buckets,
+        bins,
+        order,
+        &mut dues,
+    )
+}
+
 // The places of the row of the given order number. In the new block its bucket has that number for its rank.
 pub fn row_places(
     h: Header,
@@ -96,9 +161,7 @@ pub fn row_places(
     requires { ⌜ order < length (rowsOf h (arraysNow tops ends blocks adjustments) (sizes buckets bins)) ⌝ }
     ensures { λ r. ⌜ r ≡ placesOf (getD (rowsOf h (given tops ends blocks adjustments) (sizes buckets bins)) order []) ⌝ }
 {
-    let mut dues = [0u32; BLOCKS];
-    dues_after(h, tops, buckets, bins, &mut dues);
-    let moved = bucket_at(h, ends, blocks, adjustments, &dues, order);
+    let moved = bucket_of(h, tops, ends, blocks, adjustments, buckets, bins, order);
     let i = moved.interval;
     let old = placing_of(tops, blocks[i] as usize, adjustments[i]);
     let old_bins = bin_count(h, tops);

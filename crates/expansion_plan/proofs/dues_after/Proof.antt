@@ -3,14 +3,18 @@ use Prim.Native.Nat.{ℕ, _-_}
 use mathlib.Core.List.{List}
 use mathlib.Core.Path.{_≡_, refl, sym, _∙_, ap}
 use native.Mathlib.Omega.{arith}
+use lib.ListN.{length, getD}
 use Rattle.model.specs.Table.{Shape, Table, bins, table, sizes}
+use Rattle.model.specs.Due.{dueOfBlock}
 use Rattle.model.specs.Balance.{dueBelow}
 use Rattle.model.proofs.Wells.{Well, tops-length, bins-last, formed-well}
 use Rattle.model.proofs.Growths.{Accepted, accepted}
 use Rattle.model.proofs.Shares.{due-within, new-room, after-more, after-same}
 use Rattle.model.specs.Lent.{TopsFormed, lent}
 use Rattle.model.specs.Expansion.{newTops, dueAfter}
+use Rattle.expansion_plan.specs.Shares.{Dues}
 use Rattle.expansion_plan.proofs.Turns.{formed-tops}
+use Rattle.expansion_plan.proofs.Written.{dues-whole}
 use borrow.Author.Needs.{needs}
 use Rattle.expansion_plan.proofs.dues_after.Statement.{statement}
 use Rattle.expansion_plan.proofs.dues_after.Tie as tie
@@ -42,6 +46,13 @@ after-tops s ends blocks adjustments j = refl
 old : (c : tie.After-bin-count) → c .bin-count .result ≡ bins (t (c .before .before))
 old c = c .bin-count .ensures _ _ _
 
+-- the old blocks' dues, written over zeros
+whole
+    : (s : tie.Start) {dues : List ℕ} → Dues (z s) (s .args .tops .now) (s .args .h .«block_count») (s .args .dues .now) dues
+    → (j : ℕ) → getD dues j 0 ≡ dueOfBlock (z s) (t s .tops) j
+unfolding table
+whole s d = dues-whole _ _ _ _ _ d (rest s .formed .topsLong) (s .pre .1)
+
 bin-count-requires : tie.Need-bin-count-requires
 bin-count-requires c κs = c .before .pre .0 .whole
 
@@ -52,7 +63,7 @@ block-dues-requires : tie.Need-block-dues-requires
 block-dues-requires c κs =
     let start = c .before .before .before .before in
     let formed = rest start .formed in
-    (formed-tops _ _ formed _ (omega (arith, bins-last _ _ formed, asked start .moreBins)), start .pre .1)
+    (formed-tops _ _ formed _ (omega (arith, bins-last _ _ formed, asked start .moreBins)), rw (start .pre .1) (formed .blockLimit))
 
 div-due-below : tie.Need-div-due-below
 div-due-below c = asked (c .before .before .before .before .before .before) .someBins
@@ -101,9 +112,9 @@ returns c ends blocks adjustments j l =
     (after-more (t start) (z start) (well start) (asked start) (omega (arith, old n, c .before .before .if1 .taken))
     (start .args .buckets - c .before .due-below .result)
     (c .before .before .before .block-dues .last .1 .1 .1 .1 .0)
-    (c .before .before .before .block-dues .ensures .0)
+    (c .before .before .before .block-dues .ensures .cells ∙ ap length (start .pre .1))
     (omega (arith, within, c .before .due-below .ensures))
-    (c .before .before .before .block-dues .ensures .1)
+    (λ k b. whole start (c .before .before .before .block-dues .ensures) k)
     j
     l))
     ∙ after-tops start ends blocks adjustments j
@@ -113,7 +124,7 @@ unfolding table
 returns-2 c ends blocks adjustments j l =
     let n = c .before .before .before .before in
     let t = lent (n .before .before .args .h) (n .before .before .args .tops .now) ends blocks adjustments in
-    c .before .block-dues .ensures .1 j l
+    whole (n .before .before) (c .before .block-dues .ensures) j
     ∙ sym (after-same t (z (n .before .before)) (omega (arith, n .bin-count .ensures ends blocks adjustments, c .if1 .left)) j)
 
 pub dues-after-spec : {M : Type 1} → statement M

@@ -5,6 +5,7 @@ use Rattle.model.proofs.Wells.{bins-last, formed-well}
 use Rattle.model.proofs.Shares.{has-dues}
 use Rattle.model.specs.Lent.{lent}
 use Rattle.expansion_plan.proofs.Turns.{formed-tops}
+use Rattle.expansion_plan.proofs.Written.{dues-whole}
 use mathlib.Core.Path.{sym, _∙_, ap}
 use native.Mathlib.Omega.{arith}
 use borrow.Author.Needs.{needs}
@@ -21,7 +22,7 @@ block-dues-requires : tie.Need-block-dues-requires
 block-dues-requires c κs =
     let (tops, zeros) = c .before .before .before .before .pre in
     let n = c .before .before .bin-count .ensures (tops .ends) (tops .blocks) (tops .adjustments) in
-    (formed-tops _ _ (tops .formed) _ (omega (arith, n, bins-last _ _ (tops .formed))), zeros)
+    (formed-tops _ _ (tops .formed) _ (omega (arith, n, bins-last _ _ (tops .formed))), rw zeros (tops .formed .blockLimit))
 
 returns : tie.Need-returns
 unfolding shape table
@@ -29,7 +30,7 @@ returns c ends blocks adjustments formed j l =
     let start = c .before .before .before .before .before in
     let t = lent (start .args .h) (start .args .tops .now) ends blocks adjustments in
     let n = c .before .before .before .bin-count .ensures ends blocks adjustments in
-    c .block-dues .ensures .1 j l
+    dues-whole _ _ _ _ _ (c .block-dues .ensures) (formed .topsLong) (start .pre .1) j
     ∙ ap (λ n. dueOfBlock (sizes (start .args .h .buckets) n) (t .tops) j) n
     ∙ sym (has-dues t (formed-well _ _ formed) j)
 

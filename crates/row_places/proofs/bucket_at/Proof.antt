@@ -5,7 +5,6 @@ use mathlib.Core.List.{List}
 use native.Mathlib.Nat.{lt-of-lt-of-le}
 use native.Mathlib.Omega.{arith}
 use lib.ListN.{getD}
-use Rattle.model.specs.Limits.{maxBlocks}
 use Rattle.model.specs.Table.{Shape, Arrays, arrays}
 use Rattle.model.proofs.Rows.{end-within}
 use Rattle.row_places.specs.Rows.{Drains, RowBucket}
@@ -23,7 +22,7 @@ abbrev μ-loop : tie.MeasureT-loop
 
 -- in the loop: the function's entry, the lent arrays with some tops, and what is known of them
 abbrev start : tie.Then1 Inv-loop μ-loop → tie.Start Inv-loop μ-loop
-start c = c .before .before .before .before .before .before
+start c = c .before .before .before .before .before .before .before
 
 abbrev lists : List ℕ → tie.Then1 Inv-loop μ-loop → Arrays
 lists tops c =
@@ -41,19 +40,19 @@ bounds
     : (c : tie.Then1 Inv-loop μ-loop)
     → (getD (start c .args .adjustments .now) (c .before .before .loop .i) 0 ≤ c .before .before .loop .start)
     × (c .before .before .loop .start ≤ getD (start c .args .ends .now) (c .before .before .loop .i) 0)
-    × (getD (start c .args .blocks .now) (c .before .before .loop .i) 0 < maxBlocks)
+    × (getD (start c .args .blocks .now) (c .before .before .loop .i) 0 < start c .args .h .«block_count»)
 bounds c = walk-bounds _ _ _ _ _ (known c) _ _ _ (c .before .before .loop .inv _ _ (known c)) (c .if1 .taken)
 
 reads-fit : (c : tie.Then1 Inv-loop μ-loop) → getD (start c .args .ends .now) (c .before .before .loop .i) 0 ≤ 1_000_000_000
 reads-fit c =
     omega (
       arith,
-      end-within _ _ (known c .formed) (c .before .before .loop .i) (c .if1 .taken),
-      known c .formed .bucketLimit,
+      end-within _ _ (known c .row .formed) (c .before .before .loop .i) (c .if1 .taken),
+      known c .row .formed .bucketLimit,
     )
 
 few : (c : tie.Then1 Inv-loop μ-loop) → c .before .before .loop .i < 2081
-few c = omega (arith, c .if1 .taken, known c .formed .intervalLimit)
+few c = omega (arith, c .if1 .taken, known c .row .formed .intervalLimit)
 
 -- from where on it moves, as the code has it
 first
@@ -65,36 +64,36 @@ loop-holds : tie.Need-loop-holds Inv-loop μ-loop
 loop-holds c tops s d = walk-starts _ _ _ _ _ d
 
 cast-if1 : tie.Need-cast-if1 Inv-loop μ-loop
-cast-if1 c = omega (arith, c .before .before .before .before .before .pre .2 .formed .intervalLimit)
+cast-if1 c = omega (arith, c .before .before .before .before .before .before .pre .2 .row .formed .intervalLimit)
 
 mul-end : tie.Need-mul-end Inv-loop μ-loop
 mul-end c = omega (arith, few c)
 
 shared-slice-read-end : tie.Need-shared-slice-read-end Inv-loop μ-loop
-shared-slice-read-end c = lt-of-lt-of-le (c .before .if1 .taken) (known (c .before) .formed .endsLong)
+shared-slice-read-end c = lt-of-lt-of-le (c .before .if1 .taken) (known (c .before) .row .formed .endsLong)
 
 mul-cut : tie.Need-mul-cut Inv-loop μ-loop
 mul-cut c = omega (arith, few (c .before))
 
 shared-slice-read-cut : tie.Need-shared-slice-read-cut Inv-loop μ-loop
-shared-slice-read-cut c = lt-of-lt-of-le (c .before .before .if1 .taken) (known (c .before .before) .formed .blocksLong)
+shared-slice-read-cut c = lt-of-lt-of-le (c .before .before .if1 .taken) (known (c .before .before) .row .formed .blocksLong)
 
 cast-cut : tie.Need-cast-cut Inv-loop μ-loop
-cast-cut c = omega (arith, bounds (c .before .before))
+cast-cut c = omega (arith, bounds (c .before .before), known (c .before .before) .row .formed .blockLimit)
 
 mul-cut-2 : tie.Need-mul-cut-2 Inv-loop μ-loop
-mul-cut-2 c = omega (arith, bounds (c .before .before))
+mul-cut-2 c = omega (arith, bounds (c .before .before), known (c .before .before) .row .formed .blockLimit)
 
-element-copy-out-cut : tie.Need-element-copy-out-cut Inv-loop μ-loop
-element-copy-out-cut c = bounds (c .before .before) .2
+shared-slice-read-cut-2 : tie.Need-shared-slice-read-cut-2 Inv-loop μ-loop
+shared-slice-read-cut-2 c = lt-of-lt-of-le (bounds (c .before .before .before) .2) (known (c .before .before .before) .long)
 
 mul-cut-3 : tie.Need-mul-cut-3 Inv-loop μ-loop
 mul-cut-3 c = omega (arith, few (c .before .before .before))
 
-shared-slice-read-cut-2 : tie.Need-shared-slice-read-cut-2 Inv-loop μ-loop
-shared-slice-read-cut-2 c =
+shared-slice-read-cut-3 : tie.Need-shared-slice-read-cut-3 Inv-loop μ-loop
+shared-slice-read-cut-3 c =
     let inside = c .before .before .before .before in
-    lt-of-lt-of-le (inside .if1 .taken) (known inside .formed .adjustmentsLong)
+    lt-of-lt-of-le (inside .if1 .taken) (known inside .row .formed .adjustmentsLong)
 
 cut-requires : tie.Need-cut-requires Inv-loop μ-loop
 cut-requires c κs =
@@ -104,8 +103,8 @@ cut-requires c κs =
 sub-if2 : tie.Need-sub-if2 Inv-loop μ-loop
 sub-if2 c = first c
 
-add-t25 : tie.Need-add-t25 Inv-loop μ-loop
-add-t25 c =
+add-t24 : tie.Need-add-t24 Inv-loop μ-loop
+add-t24 c =
     let inside = c .before .before .before .before .before .before in
     let below = c .if2 .taken in
     omega (arith, first (c .before), reads-fit inside)
@@ -159,12 +158,12 @@ bucket-at-spec =
     shared-slice-read-cut
     cast-cut
     mul-cut-2
-    element-copy-out-cut
-    mul-cut-3
     shared-slice-read-cut-2
+    mul-cut-3
+    shared-slice-read-cut-3
     cut-requires
     sub-if2
-    add-t25
+    add-t24
     returns
     sub-left
     sub-left-2
