@@ -1,5 +1,5 @@
 -- The places of a growth's new map: its bins are those asked for and its positions below P, however many intervals it has. Assumes nothing.
-use Prim.Native.Nat.{ℕ, suc, _+_, _-_, _*_, _/_, _%_, _≤_, _<_}
+use Prim.Native.Nat.{ℕ, suc, _+_, _-_, _*_, _/_, _≤_, _<_}
 use mathlib.Core.Path.{_≡_, refl, sym, subst}
 use mathlib.Core.Logic.{⊎-elim}
 use mathlib.Core.Bool.{false}
@@ -7,12 +7,11 @@ use mathlib.Core.List.{List}
 use native.Mathlib.Nat.{mul-comm, mod-lt, div-lt-iff-lt-mul}
 use native.Mathlib.Omega.{arith}
 use lib.Dec.{eqb}
-use lib.ListN.{length, getD}
+use lib.ListN.{length}
 use borrow.Author.Tests.{eq-eqb}
 use Rattle.model.specs.Basics.{before}
-use Rattle.model.specs.Limits.{label}
 use Rattle.model.specs.Table.{Shape, Interval, Table, firstBin, blockBins}
-use Rattle.model.specs.Place.{blockOf, rank, bin, position, size}
+use Rattle.model.specs.Place.{rank, bin, position, size}
 use Rattle.model.specs.Due.{due, dueOfBins, dueOfBlock}
 use Rattle.model.specs.Refusal.{overfills}
 use Rattle.model.specs.Expansion.{newTops, dueAfter, someFall, filled, drained, expanded}

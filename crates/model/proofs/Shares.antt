@@ -10,7 +10,7 @@ use native.Mathlib.Omega.{arith}
 use lib.ListN.{length, getD, set, List·getD-eq-default}
 use lib.Seq.{getD-set-same, getD-set-other}
 use borrow.Author.Tests.{le-leb}
-use Rattle.model.specs.Basics.{sum, before}
+use Rattle.model.specs.Basics.{sum}
 use Rattle.model.specs.Limits.{maxBlocks}
 use Rattle.model.specs.Table.{Shape, Table, bins, shape, firstBin, blockBins}
 use Rattle.model.specs.Due.{dueOfBins, dueOfBlock}

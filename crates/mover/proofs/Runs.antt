@@ -2,12 +2,8 @@
 use Prim.Native.Nat.{ℕ, zero, suc, _+_, _≤_, _<_, min}
 use mathlib.Core.Path.{_≡_, refl, sym, _∙_, ap, subst}
 use mathlib.Core.Logic.{inl, ⊎-elim}
-use mathlib.Core.Bool.{true}
-use mathlib.Core.List.{List}
 use native.Mathlib.Omega.{arith}
 use lib.ListN.{length, getD, set}
-use borrow.Author.Tests.{lt-ltb, le-ltb}
-use Rattle.model.specs.Basics.{if_then_else_}
 use Rattle.model.specs.Expansion.{differs}
 use Rattle.model.specs.declared.reply.CarryReply.{CarryReply}
 use Rattle.model.proofs.Counts.{bit-cases, below-or}
@@ -20,7 +16,6 @@ use Rattle.mover.specs.Carry.{
   source,
   target,
   put,
-  copied,
   carryRefusal,
   carryReply,
   carryWords,

@@ -12,8 +12,8 @@ use Rattle.model.specs.Refusal.{first}
 use Rattle.model.specs.Expansion.{differs}
 use Rattle.model.specs.Relocations.{row}
 use Rattle.model.specs.Calls.{tableTests, growthTests, relocationsRefusal}
-use Rattle.mover.specs.Carry.{Growth, growth, oldTable, newTable, rowAt, total, put, carryRefusal, carryReply, carryWords}
-use Rattle.mover.specs.Run.{Stored, stored, wordOf, reads, wordsOf, markOf, carried, calls, Run}
+use Rattle.mover.specs.Carry.{Growth, growth, oldTable, newTable, rowAt, total, carryRefusal, carryReply, carryWords}
+use Rattle.mover.specs.Run.{Stored, stored, wordOf, reads, markOf, carried, calls, Run}
 
 -- a moved bucket, and its order number: how many moved buckets are below it
 abbrev pub Moves : Growth → ℕ → Type 0

@@ -7,7 +7,6 @@ use native.Mathlib.Nat.{le-refl, sub-zero}
 use native.Mathlib.Omega.{arith}
 use lib.ListN.{getD}
 use Rattle.model.specs.Basics.{bit, count, before}
-use Rattle.model.specs.Limits.{label}
 use Rattle.model.specs.Table.{Shape, Arrays, table, bins}
 use Rattle.model.specs.Expansion.{someFall, expanded, differs}
 use Rattle.model.specs.Relocations.{row, rows}

@@ -5,9 +5,9 @@ use mathlib.Core.Bool.{true}
 use mathlib.Core.List.{List}
 use native.Mathlib.Numerals.{add-one}
 use native.Mathlib.Omega.{arith}
-use lib.ListN.{length, getD}
+use lib.ListN.{getD}
 use Rattle.model.specs.Basics.{sum, count, before}
-use Rattle.model.specs.Table.{Shape, Table, Arrays, table}
+use Rattle.model.specs.Table.{Shape, Arrays, table}
 use Rattle.model.specs.Expansion.{dueAfter, someFall, expanded, differs}
 use Rattle.model.specs.Relocations.{rows}
 use Rattle.model.specs.Calls.{rowsOf}

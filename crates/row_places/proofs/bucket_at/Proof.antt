@@ -1,5 +1,5 @@
 -- `row_places::bucket_at` meets its contract: the rows before the one asked for are counted interval by interval. Assumes nothing.
-use Prim.Native.Nat.{ℕ, _+_, _-_, min, max, _≤_, _<_}
+use Prim.Native.Nat.{ℕ, _+_, _-_, _≤_, _<_}
 use mathlib.Core.Path.{sym, subst}
 use mathlib.Core.List.{List}
 use native.Mathlib.Nat.{lt-of-lt-of-le}
