@@ -1,5 +1,6 @@
 -- Document 01, 'Who brings a refusal about', and the numbers that requests add to it: the conditions, in the order of docs/REFUSALS.md. Those of a
--- file stand in Saved, that of a sheet in Sheet, those of the program's lines in Console, the order of a call's tests in Calls. Assumes nothing.
+-- file stand in Saved, that of a sheet in Sheet, those of the program's lines in Console, those of the mover in crate `mover`, the order of a call's
+-- tests in Calls. Assumes nothing.
 use Prim.Native.Nat.{ℕ, _+_, _*_}
 use mathlib.Core.Bool.{Bool, not}
 use mathlib.Core.List.{List, [], _∷_}
