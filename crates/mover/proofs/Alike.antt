@@ -1,31 +1,26 @@
 -- The mover is refused as the move list is, and then by 40 and 41. Assumes nothing.
 use Prim.Native.Nat.{ℕ, _*_, _≤_, _<_}
-use mathlib.Core.Path.{_≡_, refl, sym, _∙_}
+use mathlib.Core.Path.{_≡_, sym, _∙_}
 use mathlib.Core.Logic.{⊎-elim}
-use mathlib.Core.Bool.{Bool, true}
+use mathlib.Core.Bool.{Bool}
 use mathlib.Core.List.{List, [], _∷_, _++_}
 use native.Mathlib.Decide.{ℕ-discrete}
 use native.Mathlib.Omega.{arith}
 use borrow.Author.Tests.{ltb-true, ltb-false, lt-ltb, le-ltb}
 use lib.ListN.{length}
-use Rattle.model.specs.Basics.{if_then_else_}
 use Rattle.model.specs.Table.{Shape, Table, Arrays}
 use Rattle.model.specs.Refusal.{Test, first, orderPast}
 use Rattle.model.specs.Calls.{tableTests, sizeTests, growthTests, orderTests, relocationsRefusal}
 use Rattle.model.specs.declared.table.Header.{Header}
 use Rattle.model.proofs.Counts.{bit-cases}
 use Rattle.model.proofs.Refusals.{first-here, first-skip, first-none, first-other, first-found, first-after, Numbered}
-use Rattle.model.proofs.Soundness.{table-numbered, growth-numbered}
+use Rattle.model.proofs.Soundness.{sound-iff, table-numbered, growth-numbered}
 use Rattle.model.proofs.Expanded.{first-only, growth-alike}
 use Rattle.mover.specs.Carry.{Growth, oldTable, total, wordsShort, carryTests, carryRefusal}
 use Rattle.mover.specs.Claims.{Checks, CarryAlike, CarryRefused}
+use Rattle.mover.proofs.Spots.{forty, accepted-ready, ready-accepted}
 
 -- 40 AND 41
-
--- too few words: 40, whatever the mark is
-forty : (g : Growth) (ws : List ℕ) (m : ℕ) → wordsShort g ws ≡ true → first (carryTests g ws m) ≡ 40
-unfolding carryTests first if_then_else_
-forty g ws m e = rw e refl
 
 -- tests whose numbers are below r bring about none from r on
 under : (n : ℕ) (b : Bool) (ts : List Test) (r : ℕ) → n < r → first ts < r → first ((n, b) ∷ ts) < r
@@ -95,6 +90,15 @@ carry-refused g ws m = (
         back g ws m (c .0)
         ∙ first-skip (40, wordsShort g ws) _ (le-ltb _ _ (c .1))
         ∙ first-here (41, orderPast (total g) m) _ (lt-ltb _ _ (c .2)),
+  ),
+  (
+    λ e.
+        let (ready, within) = accepted-ready g ws m e in
+        ((sound-iff (g .header) (g .arrays) .1 (ready .sound), ready .asked), ready .long, within),
+    λ c.
+        ready-accepted g ws m
+        (record { sound = sound-iff (g .header) (g .arrays) .0 (c .0 .0); asked = c .0 .1; long = c .1 })
+        (c .2),
   ),
 )
 

@@ -36,7 +36,7 @@ use Rattle.mover.specs.Run.{
   cutCopy,
   cutMark,
 }
-use Rattle.mover.specs.Claims.{Moves, order, CarryOne, CarryNone, CarryMarks, CarryReads, CarryOn, CarryEnds, CutsReach}
+use Rattle.mover.specs.Claims.{Moves, order, CarryOne, CarryNone, RunBegins, CarryMarks, CarryReads, CarryOn, CarryEnds, CutsReach}
 use Rattle.mover.specs.Ready.{Ready}
 use Rattle.mover.proofs.Replies.{words-more, reply-more, words-end, reply-end, mark-after}
 use Rattle.mover.proofs.Copies.{copies, Apart, Near, near-long, near-put, near-copy, near-end, near-kept, near-done}
@@ -76,6 +76,9 @@ carry-none g ws m = (
 )
 
 -- RUNS
+
+pub run-begins : RunBegins
+run-begins g ws e = begun (record { first = refl; accepted = e; placed = λ x l. refl })
 
 -- how a run began
 began : {g : Growth} {content : ℕ → ℕ} {b st : Stored} → Run g content b st → Begun g content b

@@ -1,6 +1,6 @@
 -- Laws of the words that the mover reads and writes: a row's are its bucket's, and no two that matter are the same. Assumes nothing.
 use Prim.Native.Nat.{ℕ, _+_, _-_, _*_, _/_, _%_, _≤_, _<_}
-use mathlib.Core.Path.{_≡_, sym, _∙_, ap, ap₂}
+use mathlib.Core.Path.{_≡_, refl, sym, _∙_, ap, ap₂}
 use mathlib.Core.Logic.{⊎-elim}
 use mathlib.Core.Bool.{true, false}
 use mathlib.Core.List.{List}
@@ -8,11 +8,11 @@ use native.Mathlib.Nat.{suc-mul, mul-le-mul-right, div-add-mod'}
 use native.Mathlib.Omega.{arith}
 use lib.ListN.{length, getD}
 use borrow.Author.Tests.{ltb-false, le-ltb, eqb-true, not-false}
-use Rattle.model.specs.Basics.{bit, count}
+use Rattle.model.specs.Basics.{if_then_else_, bit, count}
 use Rattle.model.specs.Limits.{label}
 use Rattle.model.specs.Table.{bins, table}
 use Rattle.model.specs.Place.{bin, position}
-use Rattle.model.specs.Refusal.{orderPast}
+use Rattle.model.specs.Refusal.{first, orderPast}
 use Rattle.model.specs.Expansion.{someFall, expanded, differs}
 use Rattle.model.specs.Relocations.{row, rows}
 use Rattle.model.specs.Calls.{tableTests, growthTests, rowsOf}
@@ -68,7 +68,12 @@ word-once p y q z r l k e =
     (below-or y z) in
     (same, omega (arith, ap (λ v. v * p) same))
 
--- WHAT AN ACCEPTED CALL SAYS, and the other way
+-- THE LAST TESTS, and what an accepted call says, and the other way
+
+-- too few words: 40, whatever the mark is
+pub forty : (g : Growth) (ws : List ℕ) (m : ℕ) → wordsShort g ws ≡ true → first (carryTests g ws m) ≡ 40
+unfolding carryTests first if_then_else_
+forty g ws m e = rw e refl
 
 pub accepted-ready : (g : Growth) (ws : List ℕ) (m : ℕ) → carryRefusal g ws m ≡ 0 → Ready g ws × (m ≤ total g)
 unfolding carryRefusal carryTests wordsShort

@@ -39,13 +39,14 @@ CarryAlike =
     → (r ≡ 0 → ⊥) → (r ≡ 9 → ⊥) → (r ≡ 40 → ⊥) → (r ≡ 41 → ⊥)
     → (carryRefusal g ws m ≡ r) ↔ (relocationsRefusal (g .header) (g .arrays) (g .sizes) q ≡ r)
 
--- 40 is given exactly where those checks pass and the array is shorter than the new bins × P, and 41 exactly where it is not and
--- the mark is above the total
+-- where those checks pass, 40 is given exactly where the array is shorter than the new bins × P, and 41 exactly where it is not and
+-- the mark is above the total; a call is accepted exactly where they pass and neither is given
 abbrev pub CarryRefused : Type 0
 CarryRefused =
     (g : Growth) (ws : List ℕ) (m : ℕ)
     → ((carryRefusal g ws m ≡ 40) ↔ (Checks g × (length ws < g .sizes .bins * g .header .capacity)))
     × ((carryRefusal g ws m ≡ 41) ↔ (Checks g × (g .sizes .bins * g .header .capacity ≤ length ws) × (total g < m)))
+    × ((carryRefusal g ws m ≡ 0) ↔ (Checks g × (g .sizes .bins * g .header .capacity ≤ length ws) × (m ≤ total g)))
 
 -- where a call is accepted, every position of the new map is below P, and every bin below the new number of bins: also where
 -- the new table would have too many intervals, which the mover does not ask
@@ -77,6 +78,12 @@ CarryNone =
     → (m ≡ total g) × (carryWords g ws m ≡ ws) × (carryReply g ws m ≡ record { refusal = 0; mark = m; finished = 1 }))
 
 -- EVERY RUN
+
+-- there is one from any words at which a call with mark 0 is accepted, whatever each old bucket's word is
+abbrev pub RunBegins : Type 0
+RunBegins =
+    (g : Growth) (ws : List ℕ) → carryRefusal g ws 0 ≡ 0
+    → Run g (reads (oldTable g) ws) (stored ws 0) (stored ws 0)
 
 -- no call of it is refused, and the marks never fall
 abbrev pub CarryMarks : Type 0
@@ -146,6 +153,7 @@ pub record CarryClaims : Type 0 where
   pub carryFits : CarryFits
   pub carryOne : CarryOne
   pub carryNone : CarryNone
+  pub runBegins : RunBegins
   pub carryMarks : CarryMarks
   pub carryReads : CarryReads
   pub carryOn : CarryOn

@@ -1,7 +1,7 @@
 -- `mover::claims` meets its contract: a proof of each claim. Assumes nothing.
 use Rattle.mover.proofs.Alike.{carry-alike, carry-refused}
 use Rattle.mover.proofs.Spots.{order-row, carry-fits}
-use Rattle.mover.proofs.Runs.{carry-one, carry-none, carry-marks, carry-reads, carry-on, carry-ends, cuts-reach}
+use Rattle.mover.proofs.Runs.{carry-one, carry-none, run-begins, carry-marks, carry-reads, carry-on, carry-ends, cuts-reach}
 use Rattle.mover.proofs.Worked.{carry-worked}
 use Rattle.mover.proofs.claims.Statement.{statement}
 use Rattle.mover.proofs.claims.Tie as tie
@@ -15,6 +15,7 @@ returns c =
       carryFits = carry-fits;
       carryOne = carry-one;
       carryNone = carry-none;
+      runBegins = run-begins;
       carryMarks = carry-marks;
       carryReads = carry-reads;
       carryOn = carry-on;
