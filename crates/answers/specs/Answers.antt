@@ -1,7 +1,6 @@
 -- The lines of a block answered. Assumes nothing.
 use Rattle.std.specs.Prelude.{ℕ, ◌+◌, ◌<◌, ◌≡◌, true, false, List}
-use Rattle.model.specs.Lent.{Lents}
-use Rattle.console.specs.Rack.{Rack, rack_given, rack_left}
+use Rattle.console.specs.Rack.{Rack}
 use Rattle.standing.specs.Standing.{Idle}
 use Rattle.buffers.specs.Machine.{stands}
 use Rattle.buffers.specs.declared.Machine.{Machine}
@@ -13,10 +12,3 @@ pub record Answers (m : Machine) (k : Rack) (bytes : List ℕ) (put : ℕ) (out 
   pub went : Went m k bytes put out r.machine k' r.put out'
   pub done : r.more ≡ false → Idle (stands r.machine k' bytes)
   pub more : r.more ≡ true → m.from < r.machine.from + r.put
-
--- the same of lent arrays
-abbrev pub AnswersLines
-    : Machine → Lents → Lents → Lents → Lents → Lents → Lents → Lents → Lents → Lents → ℕ → Lents → After → Type 0
-AnswersLines m block t e b a t₂ e₂ b₂ a₂ put out r =
-    Answers m (rack_given m.state t e b a t₂ e₂ b₂ a₂) block.entry.now put out.entry.now r
-    (rack_left r.machine.state t e b a t₂ e₂ b₂ a₂) out.exit.now

@@ -1,7 +1,10 @@
 // The lines of a block, answered by the machine.
+#![tactic(auto)]
+
 ghost use Rattle.std.specs.Prelude.{◌≡◌, false, ◌≤◌, length};
+ghost use Rattle.console.specs.Rack.{rack_of};
 ghost use Rattle.buffers.specs.Machine.{SaneNow};
-ghost use Rattle.answers.specs.Answers.{AnswersLines};
+ghost use Rattle.answers.specs.Answers.{Answers};
 
 use buffers::{LAST, Machine, OUT};
 use console::step::step;
@@ -27,8 +30,9 @@ pub fn answer(
     out: &mut [u8; OUT],
 ) -> After
     requires listing_value { (m.listing ≡ false) × (m.from ≤ length block.now) × (put ≤ length out.old) }
-    requires sane_now { SaneNow m tops ends blocks adjustments second_tops second_ends second_blocks second_adjustments }
-    ensures { AnswersLines m block tops ends blocks adjustments second_tops second_ends second_blocks second_adjustments put out result }
+    requires sane_now { SaneNow m tops.old ends.old blocks.old adjustments.old second_tops.old second_ends.old second_blocks.old second_adjustments.old }
+    ensures { Answers m (rack_of m.state tops.old ends.old blocks.old adjustments.old second_tops.old second_ends.old second_blocks.old second_adjustments.old) block.now put out.old result
+            (rack_of result.machine.state tops.new ends.new blocks.new adjustments.new second_tops.new second_ends.new second_blocks.new second_adjustments.new) out.new }
 {
     let mut at = put;
     while at <= LAST {

@@ -1,7 +1,9 @@
 // The places of a list of buckets in a formed table: one walk of its intervals.
+#![tactic(auto)]
+
 ghost use Rattle.std.specs.Prelude.{ℕ, ◌+◌, ◌-◌, ◌*◌, ◌<◌, ◌≤◌, ◌≡◌, false, length, get_or};
 ghost use Rattle.std.proofs.lemmas.List.Edits.{sets};
-ghost use Rattle.model.specs.Lent.{LentFormed, table_given};
+ghost use Rattle.model.specs.Lent.{LentFormed, lent};
 ghost use Rattle.model.specs.Table.{over};
 ghost use Rattle.model.specs.Place.{places};
 ghost use Rattle.model.specs.Refusal.{first, falls as falls_in};
@@ -163,10 +165,10 @@ fn write_places(
     buckets: &[u32],
     out: &mut [u32],
 )
-    requires lent_formed { LentFormed h tops ends blocks adjustments }
+    requires lent_formed { LentFormed h tops.now ends.now blocks.now adjustments.now }
     requires buckets_value { (falls_in buckets.now ≡ false) × ((i : ℕ) → i < length buckets.now → get_or buckets.now i 0 < h.buckets) }
     requires buckets_in_bounds { 2 * length buckets.now ≤ length out.old }
-    ensures { out.new ≡ over (places (table_given h tops ends blocks adjustments) buckets.now) out.old }
+    ensures { out.new ≡ over (places (lent h tops.now ends.now blocks.now adjustments.now) buckets.now) out.old }
 {
     let mut interval: usize = 0;
     let mut placed: usize = 0;
@@ -188,10 +190,10 @@ pub fn placed_each(
     buckets: &[u32],
     out: &mut [u32],
 ) -> u32
-    requires lent_formed { LentFormed h tops ends blocks adjustments }
+    requires lent_formed { LentFormed h tops.now ends.now blocks.now adjustments.now }
     requires buckets_in_bounds { 2 * length buckets.now ≤ length out.old }
-    ensures value { result ≡ first (places_tests (table_given h tops ends blocks adjustments) buckets.now) }
-    ensures out_after { out.new ≡ answer result (over (places (table_given h tops ends blocks adjustments) buckets.now) out.old)
+    ensures value { result ≡ first (places_tests (lent h tops.now ends.now blocks.now adjustments.now) buckets.now) }
+    ensures out_left { out.new ≡ answer result (over (places (lent h tops.now ends.now blocks.now adjustments.now) buckets.now) out.old)
         out.old }
 {
     let count = buckets.len();

@@ -1,11 +1,10 @@
 -- A machine as the code holds it. Assumes nothing.
 use Rattle.std.specs.Prelude.{ℕ, ◌≤◌, ◌≡◌, true, false, List, length, take, drop}
 use Rattle.model.specs.Table.{Arrays}
-use Rattle.model.specs.Lent.{Lent}
 use Rattle.model.specs.Refusal.{room_short}
 use Rattle.lines.specs.Words.{up_to_feed}
 use Rattle.session.specs.Maps.{session, Right}
-use Rattle.console.specs.Rack.{Rack, rack, held, rack_now, moves_in}
+use Rattle.console.specs.Rack.{Rack, rack, held, rack_of, moves_in}
 use Rattle.standing.specs.Standing.{Standing, beginning, received}
 use Rattle.buffers.specs.declared.Machine.{Machine}
 
@@ -62,8 +61,11 @@ pub record Receives (m : Machine) (got : ℕ) (block : List ℕ) (r : Machine) (
       : (one two : Arrays) → Ready m (rack m.state one two) block → Ready r (rack r.state one two) block'
 
 -- the same of lent arrays
-abbrev pub SaneNow : Machine → Lent → Lent → Lent → Lent → Lent → Lent → Lent → Lent → Type 0
-SaneNow m t e b a t₂ e₂ b₂ a₂ = Sane m (rack_now m.state t e b a t₂ e₂ b₂ a₂)
+abbrev pub SaneNow
+    : Machine → List ℕ → List ℕ → List ℕ → List ℕ → List ℕ → List ℕ → List ℕ → List ℕ → Type 0
+SaneNow m t e b a t₂ e₂ b₂ a₂ = Sane m (rack_of m.state t e b a t₂ e₂ b₂ a₂)
 
-abbrev pub ReadyNow : Machine → Lent → Lent → Lent → Lent → Lent → Lent → Lent → Lent → Lent → Type 0
-ReadyNow m block t e b a t₂ e₂ b₂ a₂ = Ready m (rack_now m.state t e b a t₂ e₂ b₂ a₂) block.now
+abbrev pub ReadyNow
+    : Machine → List ℕ → List ℕ → List ℕ → List ℕ → List ℕ → List ℕ → List ℕ → List ℕ → List ℕ
+    → Type 0
+ReadyNow m block t e b a t₂ e₂ b₂ a₂ = Ready m (rack_of m.state t e b a t₂ e₂ b₂ a₂) block

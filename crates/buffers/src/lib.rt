@@ -1,4 +1,6 @@
 // The machine's state and the sizes of its buffers: it begins, a block is received, and an unfinished line is kept.
+#![tactic(auto)]
+
 ghost use Rattle.std.specs.Prelude.{◌≡◌, ◌+◌, ◌≤◌, ◌<◌, length};
 ghost use Rattle.model.specs.Table.{over};
 ghost use Rattle.buffers.specs.Machine.{unfinished, keeping, Rests, Begins, Receives};

@@ -3,7 +3,6 @@ use Rattle.std.specs.Prelude.{ℕ, ◌+◌, ◌*◌, ◌/◌, ◌≤◌, ◌≡�
 use Rattle.std.proofs.lemmas.List.Edits.{sets}
 use Rattle.model.specs.Basics.{from, joined}
 use Rattle.model.specs.Table.{Shape, Table, over}
-use Rattle.model.specs.Lent.{Lent, Lents}
 use Rattle.model.specs.Refusal.{first}
 use Rattle.model.specs.Expansion.{expanded}
 use Rattle.model.specs.Relocations.{rows, page}
@@ -30,8 +29,8 @@ rows_in xs n = from (row_at xs) 0 n
 abbrev pub Lines : ℕ → List ℕ → Type 0
 Lines n out = move_room * n + line_room ≤ length out
 
-abbrev pub Room : Lent → Lent → Type 0
-Room rows out = Lines (length rows.now / 5) out.now
+abbrev pub Room : List ℕ → List ℕ → Type 0
+Room rows out = Lines (length rows / 5) out
 
 -- the rows of the growth of t to the sizes s; an accepted one, with at least q rows
 abbrev pub growth_rows : Table → Shape → List (List ℕ)
@@ -49,7 +48,3 @@ pub record Listed (rs : List (List ℕ)) (q : ℕ) (buffer after old new : List 
   pub size : r.length ≡ length (move_text (page q (length buffer) rs))
   pub fits : r.length ≤ length old
   pub bytes : new ≡ sets old 0 (move_text (page q (length buffer) rs))
-
--- the same of lent buffers
-abbrev pub Lists : List (List ℕ) → ℕ → Lents → Lents → Page → Type 0
-Lists rs q rows out r = Listed rs q rows.entry.now rows.exit.now out.entry.now out.exit.now r

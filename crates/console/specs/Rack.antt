@@ -2,8 +2,7 @@
 use Rattle.std.specs.Prelude.{ℕ, ◌+◌, ◌≡◌, List, length}
 use Rattle.std.proofs.lemmas.List.Edits.{sets}
 use Rattle.model.specs.Basics.{if◌then◌else◌}
-use Rattle.model.specs.Table.{Table, Arrays}
-use Rattle.model.specs.Lent.{Lent, Lents, arrays_now, given, left}
+use Rattle.model.specs.Table.{Table, Arrays, arrays}
 use Rattle.model.specs.Search.{place_at}
 use Rattle.model.specs.Calls.{answer}
 use Rattle.model.specs.Console.{read, moves_of, command_answer}
@@ -25,19 +24,15 @@ rack st one two = record { state = st; one = one; two = two }
 unfoldable pub held : Rack → Maps
 held k = if k.state.flipped then maps k.state k.two k.one else maps k.state k.one k.two
 
--- a state and the eight arrays of two tables, of which a `requires` speaks; as a call is given them, and as it leaves them
-abbrev pub rack_now : State → Lent → Lent → Lent → Lent → Lent → Lent → Lent → Lent → Rack
-rack_now st t e b a t₂ e₂ b₂ a₂ = rack st (arrays_now t e b a) (arrays_now t₂ e₂ b₂ a₂)
-
-abbrev pub rack_given : State → Lents → Lents → Lents → Lents → Lents → Lents → Lents → Lents → Rack
-rack_given st t e b a t₂ e₂ b₂ a₂ = rack st (given t e b a) (given t₂ e₂ b₂ a₂)
-
-abbrev pub rack_left : State → Lents → Lents → Lents → Lents → Lents → Lents → Lents → Lents → Rack
-rack_left st t e b a t₂ e₂ b₂ a₂ = rack st (left t e b a) (left t₂ e₂ b₂ a₂)
+-- a state and the eight lists of two tables
+abbrev pub rack_of
+    : State → List ℕ → List ℕ → List ℕ → List ℕ → List ℕ → List ℕ → List ℕ → List ℕ → Rack
+rack_of st t e b a t₂ e₂ b₂ a₂ = rack st (arrays t e b a) (arrays t₂ e₂ b₂ a₂)
 
 -- both tables have room, and the map is sound
-abbrev pub RackRight : State → Lent → Lent → Lent → Lent → Lent → Lent → Lent → Lent → Type 0
-RackRight st t e b a t₂ e₂ b₂ a₂ = Right (held (rack_now st t e b a t₂ e₂ b₂ a₂))
+abbrev pub RackRight
+    : State → List ℕ → List ℕ → List ℕ → List ℕ → List ℕ → List ℕ → List ℕ → List ℕ → Type 0
+RackRight st t e b a t₂ e₂ b₂ a₂ = Right (held (rack_of st t e b a t₂ e₂ b₂ a₂))
 
 -- the rows of the latest growth
 abbrev pub moves_in : Rack → List (List ℕ)

@@ -1,4 +1,6 @@
 // One line of a session, and its move list, page by page. The caller holds both tables.
+#![tactic(auto)]
+
 pub mod list;
 pub mod step;
 

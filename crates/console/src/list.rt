@@ -1,11 +1,11 @@
 // The `move` lines of the latest growth, page by page.
 ghost use Rattle.std.specs.Prelude.{◌≡◌, ◌+◌, ◌*◌, ◌≤◌, length};
 ghost use Rattle.std.proofs.lemmas.List.Edits.{sets};
-ghost use Rattle.model.specs.Lent.{LentFormed, table_now, table_given};
+ghost use Rattle.model.specs.Lent.{LentFormed, lent};
 ghost use Rattle.model.specs.Console.{move_text};
 ghost use Rattle.session.specs.Maps.{sizes_of};
-ghost use Rattle.console.specs.Rack.{rack_now, rack_given, RackRight, moves_in};
-ghost use Rattle.console.specs.Listing.{rows_in, Lines, Room, growth_rows, Growth, Lists};
+ghost use Rattle.console.specs.Rack.{rack_of, RackRight, moves_in};
+ghost use Rattle.console.specs.Listing.{rows_in, Lines, Room, growth_rows, Growth, Listed};
 
 use crate::Page;
 use model::limits::{BLOCKS, INTERVALS};
@@ -48,9 +48,9 @@ fn page(
     rows: &mut [u32],
     out: &mut [u8],
 ) -> Page
-    requires lent_formed { LentFormed state.before tops ends blocks adjustments × Room rows out }
-    requires growth { Growth (table_now state.before tops ends blocks adjustments) (sizes_of state) first }
-    ensures { Lists (growth_rows (table_given state.before tops ends blocks adjustments) (sizes_of state)) first rows out result }
+    requires lent_formed { LentFormed state.before tops.now ends.now blocks.now adjustments.now × Room rows.old out.old }
+    requires growth { Growth (lent state.before tops.now ends.now blocks.now adjustments.now) (sizes_of state) first }
+    ensures { Listed (growth_rows (lent state.before tops.now ends.now blocks.now adjustments.now) (sizes_of state)) first rows.old rows.new out.old out.new result }
 {
     let current = state.current;
     let before = state.before;
@@ -88,11 +88,11 @@ pub fn list(
     rows: &mut [u32],
     out: &mut [u8],
 ) -> Page
-    requires rack_right { RackRight state tops ends blocks adjustments second_tops second_ends second_blocks second_adjustments }
-    requires first_in_bounds { first ≤ length (moves_in (rack_now state tops ends blocks adjustments second_tops second_ends second_blocks second_adjustments)) }
-    requires room { Room rows out }
-    ensures { Lists
-        (moves_in (rack_given state tops ends blocks adjustments second_tops second_ends second_blocks second_adjustments)) first rows out result }
+    requires rack_right { RackRight state tops.now ends.now blocks.now adjustments.now second_tops.now second_ends.now second_blocks.now second_adjustments.now }
+    requires first_in_bounds { first ≤ length (moves_in (rack_of state tops.now ends.now blocks.now adjustments.now second_tops.now second_ends.now second_blocks.now second_adjustments.now)) }
+    requires room { Room rows.old out.old }
+    ensures { Listed
+        (moves_in (rack_of state tops.now ends.now blocks.now adjustments.now second_tops.now second_ends.now second_blocks.now second_adjustments.now)) first rows.old rows.new out.old out.new result }
 {
     let none = Page {
         rows: 0,

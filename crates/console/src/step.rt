@@ -1,10 +1,10 @@
 // One line: read, done, and answered.
 ghost use Rattle.std.specs.Prelude.{◌≡◌, ◌+◌, ◌≤◌, length};
 ghost use Rattle.std.proofs.lemmas.List.Edits.{sets};
-ghost use Rattle.model.specs.Lent.{LentFormed, table_given};
+ghost use Rattle.model.specs.Lent.{LentFormed, lent};
 ghost use Rattle.print.specs.Numbers.{line_room};
 ghost use Rattle.session.specs.Maps.{shown, is_list};
-ghost use Rattle.console.specs.Rack.{rack_given, rack_left, RackRight, Served, where_answer};
+ghost use Rattle.console.specs.Rack.{rack_of, RackRight, Served, where_answer};
 
 use crate::Reply;
 use model::answer::Answer;
@@ -62,9 +62,9 @@ pub fn put_where(
     out: &mut [u8],
     at: usize,
 ) -> usize
-    requires { (at + line_room ≤ length out.old) × LentFormed h tops ends blocks adjustments }
-    ensures place { result ≡ at + length (shown (where_answer (table_given h tops ends blocks adjustments) bucket)) }
-    ensures bytes { out.new ≡ sets out.old at (shown (where_answer (table_given h tops ends blocks adjustments) bucket)) }
+    requires { (at + line_room ≤ length out.old) × LentFormed h tops.now ends.now blocks.now adjustments.now }
+    ensures place { result ≡ at + length (shown (where_answer (lent h tops.now ends.now blocks.now adjustments.now) bucket)) }
+    ensures bytes { out.new ≡ sets out.old at (shown (where_answer (lent h tops.now ends.now blocks.now adjustments.now) bucket)) }
 {
     let reply = lookup::placed(h, tops, ends, blocks, adjustments, bucket);
     if reply.refusal != 0 {
@@ -89,10 +89,10 @@ pub fn step(
     at: usize,
 ) -> Reply
     requires line_room_in_bounds { at + line_room ≤ length out.old }
-    requires rack_right { RackRight state tops ends blocks adjustments second_tops second_ends second_blocks second_adjustments }
-    ensures { Served (rack_given state tops ends blocks adjustments second_tops second_ends second_blocks second_adjustments)
+    requires rack_right { RackRight state tops.old ends.old blocks.old adjustments.old second_tops.old second_ends.old second_blocks.old second_adjustments.old }
+    ensures { Served (rack_of state tops.old ends.old blocks.old adjustments.old second_tops.old second_ends.old second_blocks.old second_adjustments.old)
         line.now at out.old result
-        (rack_left result.state tops ends blocks adjustments second_tops second_ends second_blocks second_adjustments) out.new }
+        (rack_of result.state tops.new ends.new blocks.new adjustments.new second_tops.new second_ends.new second_blocks.new second_adjustments.new) out.new }
 {
     let command = lines::read(line);
     if state.flipped {

@@ -1,5 +1,7 @@
 // Plays the mover through the public calls: runs that are not cut, runs that are cut at every row and in every way, once and twice, and
 // refused calls. Prints what it counted. The random histories come from a fixed seed, so that a run is like any other.
+#![tactic(auto)]
+
 mod cut;
 mod full;
 mod history;

@@ -1,6 +1,8 @@
 // Plays the mover through the public calls, without bits and with one bit a bucket, of every pattern and with junk behind them: runs that
 // are not cut, runs that are cut at every row and in every way, once and twice, and refused calls; and the call that counts the written
 // ones of the buckets that move. Prints what it counted. The random numbers come from fixed seeds, so that a run is like any other.
+#![tactic(auto)]
+
 mod bits;
 mod chance;
 mod cut;

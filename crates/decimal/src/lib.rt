@@ -1,5 +1,7 @@
 // A number in decimal, with a blank before it. How many digits it has picks the function; each stores them by pairs or eight at a
 // time, and the zero before a single first digit where the blank goes.
+#![tactic(auto)]
+
 ghost use Rattle.std.specs.Prelude.{◌∷◌, ◌≡◌, ◌⊎◌, ◌+◌, ◌≤◌, ◌<◌, length};
 ghost use Rattle.std.proofs.lemmas.List.Edits.{sets};
 ghost use Rattle.model.specs.Decimal.{decimal};

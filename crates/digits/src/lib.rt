@@ -1,4 +1,6 @@
 // Digits stored two or eight at a time: the one place where a number becomes digits.
+#![tactic(auto)]
+
 ghost use Rattle.std.specs.Prelude.{◌++◌, reverse, ◌≡◌, ◌+◌, ◌/◌, ◌%◌, ◌≤◌, ◌<◌, length};
 ghost use Rattle.std.proofs.lemmas.List.Edits.{sets};
 ghost use Rattle.digits.specs.Parts.{pair_of, four_of, bytes_of, word_of};

@@ -1,7 +1,9 @@
 // A growth and its move list, of a table that is known to be formed.
+#![tactic(auto)]
+
 ghost use Rattle.std.specs.Prelude.{false, ◌≡◌};
-ghost use Rattle.model.specs.Lent.{LentFormed, given, left, arrays_now, table_given};
-ghost use Rattle.model.specs.Table.{sizes};
+ghost use Rattle.model.specs.Lent.{LentFormed, lent};
+ghost use Rattle.model.specs.Table.{sizes, arrays};
 ghost use Rattle.model.specs.Refusal.{room_short};
 ghost use Rattle.expansion_count.specs.Given.{Grows};
 ghost use Rattle.expansion.specs.Replies.{GrowReply, MovesReply};
@@ -38,7 +40,7 @@ fn accepted<'a>(
     new_adjustments: &mut [u32],
 ) -> TableReply
     requires grows { Grows header ends.now blocks.now adjustments.now buckets olds.now dues.now falls block_count tops.now bins }
-    requires new_adjustments_value { room_short (arrays_now new_tops new_ends new_blocks new_adjustments) ≡ false }
+    requires room { room_short (arrays_now new_tops new_ends new_blocks new_adjustments) ≡ false }
     ensures { GrowReply (table_given header tops ends blocks adjustments) (sizes buckets bins)
         (given new_tops new_ends new_blocks new_adjustments) (left new_tops new_ends new_blocks new_adjustments) result }
 {
@@ -99,10 +101,10 @@ pub fn grown(
     new_blocks: &mut [u32],
     new_adjustments: &mut [u32],
 ) -> TableReply
-    requires lent_formed { LentFormed header tops ends blocks adjustments }
-    requires new_adjustments_value { room_short (arrays_now new_tops new_ends new_blocks new_adjustments) ≡ false }
-    ensures { GrowReply (table_given header tops ends blocks adjustments) (sizes buckets bins)
-        (given new_tops new_ends new_blocks new_adjustments) (left new_tops new_ends new_blocks new_adjustments) result }
+    requires lent_formed { LentFormed header tops.now ends.now blocks.now adjustments.now }
+    requires room { room_short (arrays new_tops.old new_ends.old new_blocks.old new_adjustments.old) ≡ false }
+    ensures { GrowReply (lent header tops.now ends.now blocks.now adjustments.now) (sizes buckets bins)
+        (arrays new_tops.old new_ends.old new_blocks.old new_adjustments.old) (arrays new_tops.new new_ends.new new_blocks.new new_adjustments.new) result }
 {
     let wrong = expansion_plan::growth_refusal(header, tops, buckets, bins);
     if wrong != 0 {
@@ -158,8 +160,8 @@ pub fn relocated(
     first: u32,
     rows: &mut [u32],
 ) -> RelocationsReply
-    requires { LentFormed header tops ends blocks adjustments }
-    ensures { MovesReply (table_given header tops ends blocks adjustments) (sizes buckets bins) first rows.old rows.new result }
+    requires { LentFormed header tops.now ends.now blocks.now adjustments.now }
+    ensures { MovesReply (lent header tops.now ends.now blocks.now adjustments.now) (sizes buckets bins) first rows.old rows.new result }
 {
     let refusal = expansion_plan::growth_refusal(header, tops, buckets, bins);
     if refusal != 0 {

@@ -5,7 +5,7 @@ use Rattle.model.specs.Limits.{max_blocks}
 use Rattle.model.specs.Table.{Shape, Table, Arrays, arrays, table, sizes}
 use Rattle.model.specs.Refusal.{first}
 use Rattle.model.specs.Sound.{Formed}
-use Rattle.model.specs.Lent.{Lents, lent}
+use Rattle.model.specs.Lent.{lent}
 use Rattle.model.specs.Expansion.{grown_tops, some_fall, last_block}
 use Rattle.model.specs.Calls.{growth_tests}
 use Rattle.model.specs.declared.table.Header.{Header}
@@ -16,10 +16,6 @@ pub record Some {A B : Type 0} (P : A → B → Type 0) : Type 0 where
   pub one : A
   pub other : B
   pub holds : P one other
-
--- the table of a header, tops and the arrays lent
-abbrev pub table_with : Header → List ℕ → Lents → Lents → Lents → Table
-table_with h tops ends blocks adjustments = lent h tops ends.entry.now blocks.entry.now adjustments.entry.now
 
 -- an accepted growth, with the dues after it
 pub record Drains (h : Header) (ends blocks adjustments : List ℕ) (buckets : ℕ) (dues tops : List ℕ) (bins : ℕ) : Type 0 where

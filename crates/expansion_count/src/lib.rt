@@ -1,10 +1,13 @@
 // Whether a growth's table needs too many intervals. A growth makes at most one more for each block after it, so that its intervals
 // are seldom counted before they are written.
+#![tactic(auto)]
+
 ghost use Rattle.std.specs.Prelude.{◌≡◌, List, ℕ, ◌≤◌, ◌<◌, length};
 ghost use Rattle.model.specs.Table.{Shape, Interval, Table, sizes};
 ghost use Rattle.model.specs.Refusal.{intervals_full};
 ghost use Rattle.model.specs.Expansion.{pieces as pieces_of, drained, expanded};
-ghost use Rattle.expansion_count.specs.Given.{Some, Drains, Grows, Shares, NoneFalls, table_with};
+ghost use Rattle.model.specs.Lent.{lent};
+ghost use Rattle.expansion_count.specs.Given.{Some, Drains, Grows, Shares, NoneFalls};
 ghost use Rattle.expansion_count.specs.Made.{made, left_behind, piece_of};
 
 use expansion_plan::plan_at;
@@ -62,7 +65,7 @@ fn count_drained(
     requires { Some (Drains h ends.now blocks.now adjustments.now buckets dues.now) }
     ensures { (tops : List ℕ) (bins : ℕ)
         → Drains h ends.now blocks.now adjustments.now buckets dues.now tops bins
-        → result ≡ length (drained (table_with h tops ends blocks adjustments) (sizes buckets bins)) }
+        → result ≡ length (drained (lent h tops ends.now blocks.now adjustments.now) (sizes buckets bins)) }
 {
     let mut intervals: u32 = 0;
     let mut start: u32 = 0;
@@ -128,7 +131,7 @@ fn measure(
     ensures { (tops : List ℕ) (bins : ℕ)
         → Grows h ends.now blocks.now adjustments.now
         buckets olds.now dues.now falls count tops bins
-        → result ≡ length (expanded (table_with h tops ends blocks adjustments) (sizes buckets bins)).intervals }
+        → result ≡ length (expanded (lent h tops ends.now blocks.now adjustments.now) (sizes buckets bins)).intervals }
 {
     if falls {
         return count_drained(h, ends, blocks, adjustments, buckets, dues);
@@ -153,7 +156,7 @@ pub fn intervals_full(
     ensures { (tops : List ℕ) (bins : ℕ)
         → Grows h ends.now blocks.now adjustments.now
         buckets olds.now dues.now falls count tops bins
-        → result ≡ intervals_full (table_with h tops ends blocks adjustments) (sizes buckets bins) }
+        → result ≡ intervals_full (lent h tops ends.now blocks.now adjustments.now) (sizes buckets bins) }
 {
     if h.interval_count + count <= MAX_INTERVALS {
         return false;

@@ -1,9 +1,12 @@
 // The intervals of a growth by which some old block is due less. Every entry is written once: the last moved part gets its
 // final end when it is written.
+#![tactic(auto)]
+
 ghost use Rattle.std.specs.Prelude.{List, [], ◌∷◌, ℕ, ◌+◌, ◌^◌, ◌≤◌, ◌<◌, ◌≡◌, length};
 ghost use Rattle.model.specs.Table.{interval, sizes};
 ghost use Rattle.model.specs.Expansion.{drained};
-ghost use Rattle.expansion_count.specs.Given.{Some, Drains, table_with};
+ghost use Rattle.model.specs.Lent.{lent};
+ghost use Rattle.expansion_count.specs.Given.{Some, Drains};
 ghost use Rattle.expansion_count.specs.Made.{made, CountedDrained};
 ghost use Rattle.expansion_drain.specs.Stored.{Room, Stored, staying, DrainsInto};
 
@@ -198,8 +201,8 @@ pub fn write_drained(
         (DrainsInto new_ends.old new_blocks.old new_adjustments.old h ends.now blocks.now adjustments.now buckets dues.now) }
     ensures { (tops : List ℕ) (bins : ℕ)
         → Drains h ends.now blocks.now adjustments.now buckets dues.now tops bins
-        → CountedDrained (table_with h tops ends blocks adjustments) (sizes buckets bins) result
-        × Stored 0 (drained (table_with h tops ends blocks adjustments) (sizes buckets bins))
+        → CountedDrained (lent h tops ends.now blocks.now adjustments.now) (sizes buckets bins) result
+        × Stored 0 (drained (lent h tops ends.now blocks.now adjustments.now) (sizes buckets bins))
         new_ends.old new_blocks.old new_adjustments.old
         new_ends.new new_blocks.new new_adjustments.new }
 {

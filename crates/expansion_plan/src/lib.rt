@@ -1,4 +1,6 @@
 // What a growth asks for and does, on a formed table: its refusals, the dues after it, and the plan for an interval.
+#![tactic(auto)]
+
 ghost use Rattle.std.specs.Prelude.{ℕ, ◌<◌, ◌≤◌, List, ◌≡◌, length, get_or, replicate};
 ghost use Rattle.model.specs.Lent.{TopsFormed, lent};
 ghost use Rattle.model.specs.Limits.{max_blocks};

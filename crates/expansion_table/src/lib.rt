@@ -1,11 +1,13 @@
 // The writing pass of a growth: its tops, and its intervals by the case.
+#![tactic(auto)]
+
 ghost use Rattle.std.specs.Prelude.{false, List, ◌≡◌, ℕ, ◌+◌, ◌≤◌, length, take};
-ghost use Rattle.model.specs.Lent.{given, left, arrays_now, table_given, table_now};
+ghost use Rattle.model.specs.Lent.{lent};
 ghost use Rattle.model.specs.Limits.{max_blocks, max_intervals};
 ghost use Rattle.model.specs.Table.{Shape, Table, arrays, over, written, sizes};
 ghost use Rattle.model.specs.Refusal.{room_short};
 ghost use Rattle.model.specs.Expansion.{grown_tops, pieces as pieces_of, filled, expanded};
-ghost use Rattle.expansion_count.specs.Given.{Some, Grows, Fills, Shares, table_with};
+ghost use Rattle.expansion_count.specs.Given.{Some, Grows, Fills, Shares};
 ghost use Rattle.expansion_count.specs.Made.{Counted};
 ghost use Rattle.expansion_drain.specs.Stored.{Room, Stored};
 ghost use Rattle.expansion_table.specs.Copied.{Copied};
@@ -75,7 +77,8 @@ fn copy_intervals(
     requires count_le_max_intervals { count ≤ max_intervals }
     requires room { Room count ends.now blocks.now adjustments.now }
     requires room_2 { Room count new_ends.old new_blocks.old new_adjustments.old }
-    ensures { Copied count ends new_ends × Copied count blocks new_blocks × Copied count adjustments new_adjustments }
+    ensures { Copied count ends.now new_ends.old new_ends.new × Copied count blocks.now new_blocks.old new_blocks.new
+        × Copied count adjustments.now new_adjustments.old new_adjustments.new }
 {
     copy(ends, count, new_ends);
     copy(blocks, count, new_blocks);
@@ -102,9 +105,9 @@ fn write_filled(
     ensures { (tops : List ℕ) (s : Shape)
         → Fills h (arrays tops ends.now blocks.now adjustments.now) s
         olds.now dues.now
-        → count ≡ length (grown_tops (table_with h tops ends blocks adjustments) s)
-        → (result ≡ length (filled (table_with h tops ends blocks adjustments) s))
-        × Stored 0 (filled (table_with h tops ends blocks adjustments) s)
+        → count ≡ length (grown_tops (lent h tops ends.now blocks.now adjustments.now) s)
+        → (result ≡ length (filled (lent h tops ends.now blocks.now adjustments.now) s))
+        × Stored 0 (filled (lent h tops ends.now blocks.now adjustments.now) s)
         new_ends.old new_blocks.old new_adjustments.old
         new_ends.new new_blocks.new new_adjustments.new }
 {
@@ -175,8 +178,8 @@ fn write_intervals(
     ensures { (tops : List ℕ) (bins : ℕ)
         → Grows h ends.now blocks.now adjustments.now
         buckets olds.now dues.now falls count tops bins
-        → Counted (table_with h tops ends blocks adjustments) (sizes buckets bins) result
-        × Stored 0 (expanded (table_with h tops ends blocks adjustments) (sizes buckets bins)).intervals
+        → Counted (lent h tops ends.now blocks.now adjustments.now) (sizes buckets bins) result
+        × Stored 0 (expanded (lent h tops ends.now blocks.now adjustments.now) (sizes buckets bins)).intervals
         new_ends.old new_blocks.old new_adjustments.old
         new_ends.new new_blocks.new new_adjustments.new }
 {
@@ -232,12 +235,12 @@ pub fn write_expanded(
     new_adjustments: &mut [u32],
 ) -> Growth
     requires grows { Grows h ends.now blocks.now adjustments.now buckets olds.now dues.now falls count tops.now bins }
-    requires new_adjustments_value { room_short (arrays_now new_tops new_ends new_blocks new_adjustments) ≡ false }
-    requires bins_len_bound { length (expanded (table_now h tops ends blocks adjustments) (sizes buckets bins)).intervals ≤ max_intervals }
-    ensures counted { Counted (table_given h tops ends blocks adjustments) (sizes buckets bins) result }
-    ensures written { left new_tops new_ends new_blocks new_adjustments ≡ written
-        (expanded (table_given h tops ends blocks adjustments) (sizes buckets bins))
-        (given new_tops new_ends new_blocks new_adjustments) }
+    requires room { room_short (arrays new_tops.old new_ends.old new_blocks.old new_adjustments.old) ≡ false }
+    requires bins_len_bound { length (expanded (lent h tops.now ends.now blocks.now adjustments.now) (sizes buckets bins)).intervals ≤ max_intervals }
+    ensures counted { Counted (lent h tops.now ends.now blocks.now adjustments.now) (sizes buckets bins) result }
+    ensures written { arrays new_tops.new new_ends.new new_blocks.new new_adjustments.new ≡ written
+        (expanded (lent h tops.now ends.now blocks.now adjustments.now) (sizes buckets bins))
+        (arrays new_tops.old new_ends.old new_blocks.old new_adjustments.old) }
 {
     write_tops(tops, h.block_count, count, bins, new_tops);
     write_intervals(

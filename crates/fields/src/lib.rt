@@ -1,4 +1,6 @@
 // A number right-aligned with blanks in ten columns: a field of the rack sheet. The numbers of a sheet have at most nine digits.
+#![tactic(auto)]
+
 ghost use Rattle.std.specs.Prelude.{◌≡◌, ◌+◌, ◌-◌, ◌≤◌, ◌<◌, length};
 ghost use Rattle.std.proofs.lemmas.List.Edits.{sets};
 ghost use Rattle.model.specs.Decimal.{decimal};

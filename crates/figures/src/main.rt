@@ -1,5 +1,7 @@
 // Works through document 01's figures without a star, the slips of the rack fitter, and refusals at their edges on both
 // sides, through the public calls, and prints what it saw: a line a call, its arguments and then its whole reply.
+#![tactic(auto)]
+
 mod fresh;
 mod lent;
 mod list;

@@ -1,7 +1,9 @@
 // Loading a file that passes rule 11: it is judged where it lies, its adjustments are worked out in an array of one's own, and all
 // is written out after every rule has passed. `h` is the header that the file says, with the capacity given.
+#![tactic(auto)]
+
 ghost use Rattle.std.specs.Prelude.{◌≤◌, length};
-ghost use Rattle.model.specs.Lent.{given, left, arrays_now};
+ghost use Rattle.model.specs.Table.{arrays};
 ghost use Rattle.soundness.specs.Passed.{alone};
 ghost use Rattle.file_read.specs.Opening.{Opened};
 ghost use Rattle.file_judged.specs.Loading.{Judged, Loaded};
@@ -23,8 +25,8 @@ fn load_judged(
     blocks: &mut [u32],
     adjustments: &mut [u32],
 ) -> u32
-    requires { Judged f.now h own_tops.now own.now (arrays_now tops ends blocks adjustments) }
-    ensures { Loaded f.now h.capacity (given tops ends blocks adjustments) result (left tops ends blocks adjustments) }
+    requires { Judged f.now h own_tops.now own.now (arrays tops.old ends.old blocks.old adjustments.old) }
+    ensures { Loaded f.now h.capacity (arrays tops.old ends.old blocks.old adjustments.old) result (arrays tops.new ends.new blocks.new adjustments.new) }
 {
     if capacity_wrong(h, own_tops) {
         return 30;
@@ -43,9 +45,9 @@ pub fn load_by(
     blocks: &mut [u32],
     adjustments: &mut [u32],
 ) -> u32
-    requires opened { Opened f.now h (arrays_now tops ends blocks adjustments) }
+    requires opened { Opened f.now h (arrays tops.old ends.old blocks.old adjustments.old) }
     requires interval_count_in_bounds { h.interval_count ≤ length own.old }
-    ensures { Loaded f.now h.capacity (given tops ends blocks adjustments) result (left tops ends blocks adjustments) }
+    ensures { Loaded f.now h.capacity (arrays tops.old ends.old blocks.old adjustments.old) result (arrays tops.new ends.new blocks.new adjustments.new) }
 {
     let count = h.block_count as usize;
     let mut own_tops = [0u32; BLOCKS];
@@ -76,8 +78,8 @@ pub fn load_alone(
     blocks: &mut [u32],
     adjustments: &mut [u32],
 ) -> u32
-    requires { Opened f.now (alone buckets capacity) (arrays_now tops ends blocks adjustments) }
-    ensures { Loaded f.now capacity (given tops ends blocks adjustments) result (left tops ends blocks adjustments) }
+    requires { Opened f.now (alone buckets capacity) (arrays tops.old ends.old blocks.old adjustments.old) }
+    ensures { Loaded f.now capacity (arrays tops.old ends.old blocks.old adjustments.old) result (arrays tops.new ends.new blocks.new adjustments.new) }
 {
     let h = Header {
         buckets,

@@ -1,10 +1,12 @@
 // Loading a file: rule 11, and then by an array of its size for its adjustments. `h` is the header that the file says, with the
 // capacity given.
+#![tactic(auto)]
+
 ghost use Rattle.std.specs.Prelude.{◌≡◌, false, ◌≤◌};
-ghost use Rattle.model.specs.Lent.{given, left, arrays_now};
 ghost use Rattle.model.specs.Refusal.{room_short, first};
 ghost use Rattle.model.specs.Saved.{loaded_header};
 ghost use Rattle.model.specs.Calls.{load_answer, load_tests};
+ghost use Rattle.model.specs.Table.{arrays};
 ghost use Rattle.file_read.specs.Opening.{Opened};
 ghost use Rattle.file_judged.specs.Loading.{loaded_over, Loaded};
 
@@ -29,9 +31,9 @@ fn load_few(
     blocks: &mut [u32],
     adjustments: &mut [u32],
 ) -> u32
-    requires opened { Opened f.now h (arrays_now tops ends blocks adjustments) }
+    requires opened { Opened f.now h (arrays tops.old ends.old blocks.old adjustments.old) }
     requires interval_count_bound { h.interval_count ≤ 128 }
-    ensures { Loaded f.now h.capacity (given tops ends blocks adjustments) result (left tops ends blocks adjustments) }
+    ensures { Loaded f.now h.capacity (arrays tops.old ends.old blocks.old adjustments.old) result (arrays tops.new ends.new blocks.new adjustments.new) }
 {
     let mut own = [0u32; FEW];
     load_by(f, h, &mut own, tops, ends, blocks, adjustments)
@@ -46,9 +48,9 @@ fn load_some(
     blocks: &mut [u32],
     adjustments: &mut [u32],
 ) -> u32
-    requires opened { Opened f.now h (arrays_now tops ends blocks adjustments) }
+    requires opened { Opened f.now h (arrays tops.old ends.old blocks.old adjustments.old) }
     requires interval_count_bound { h.interval_count ≤ 512 }
-    ensures { Loaded f.now h.capacity (given tops ends blocks adjustments) result (left tops ends blocks adjustments) }
+    ensures { Loaded f.now h.capacity (arrays tops.old ends.old blocks.old adjustments.old) result (arrays tops.new ends.new blocks.new adjustments.new) }
 {
     let mut own = [0u32; SOME];
     load_by(f, h, &mut own, tops, ends, blocks, adjustments)
@@ -63,8 +65,8 @@ fn load_many(
     blocks: &mut [u32],
     adjustments: &mut [u32],
 ) -> u32
-    requires { Opened f.now h (arrays_now tops ends blocks adjustments) }
-    ensures { Loaded f.now h.capacity (given tops ends blocks adjustments) result (left tops ends blocks adjustments) }
+    requires { Opened f.now h (arrays tops.old ends.old blocks.old adjustments.old) }
+    ensures { Loaded f.now h.capacity (arrays tops.old ends.old blocks.old adjustments.old) result (arrays tops.new ends.new blocks.new adjustments.new) }
 {
     let mut own = [0u32; INTERVALS];
     load_by(f, h, &mut own, tops, ends, blocks, adjustments)
@@ -79,8 +81,8 @@ fn load_sized(
     blocks: &mut [u32],
     adjustments: &mut [u32],
 ) -> u32
-    requires { Opened f.now h (arrays_now tops ends blocks adjustments) }
-    ensures { Loaded f.now h.capacity (given tops ends blocks adjustments) result (left tops ends blocks adjustments) }
+    requires { Opened f.now h (arrays tops.old ends.old blocks.old adjustments.old) }
+    ensures { Loaded f.now h.capacity (arrays tops.old ends.old blocks.old adjustments.old) result (arrays tops.new ends.new blocks.new adjustments.new) }
 {
     let intervals = h.interval_count as usize;
     if SOME < intervals {
@@ -119,9 +121,9 @@ pub fn loaded(
     blocks: &mut [u32],
     adjustments: &mut [u32],
 ) -> LoadReply
-    requires { room_short (arrays_now tops ends blocks adjustments) ≡ false }
+    requires { room_short (arrays tops.old ends.old blocks.old adjustments.old) ≡ false }
     ensures value { result ≡ load_answer (first (load_tests f.now capacity)) (loaded_header f.now capacity) }
-    ensures adjustments_value { left tops ends blocks adjustments ≡ loaded_over f.now capacity (given tops ends blocks adjustments) }
+    ensures arrays_left { arrays tops.new ends.new blocks.new adjustments.new ≡ loaded_over f.now capacity (arrays tops.old ends.old blocks.old adjustments.old) }
 {
     if file_wrong(f, capacity) {
         return LoadReply {

@@ -1,4 +1,6 @@
 // The numbers of a saved form: 4 bytes each, low byte first; and the header that a file says.
+#![tactic(auto)]
+
 ghost use Rattle.std.specs.Prelude.{◌≡◌, ◌+◌, ◌*◌, ◌≤◌, length};
 ghost use Rattle.std.proofs.lemmas.List.Edits.{sets};
 ghost use Rattle.model.specs.Saved.{bytes_of, number, loaded_header};

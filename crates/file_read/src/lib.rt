@@ -1,9 +1,10 @@
 // A file's rule 11, and its numbers: read into arrays, and written out as a table.
+#![tactic(auto)]
+
 ghost use Rattle.std.specs.Prelude.{◌≡◌, ◌+◌, ◌*◌, ◌≤◌, length};
-ghost use Rattle.model.specs.Lent.{given, left, arrays_now};
 ghost use Rattle.model.specs.Basics.{from};
 ghost use Rattle.model.specs.Limits.{max_intervals};
-ghost use Rattle.model.specs.Table.{over};
+ghost use Rattle.model.specs.Table.{over, arrays};
 ghost use Rattle.model.specs.Saved.{number, file_wrong};
 ghost use Rattle.file_rules.specs.Judging.{file_arrays, Counted};
 ghost use Rattle.file_read.specs.Opening.{Opened, out_over};
@@ -76,9 +77,9 @@ pub fn write_out(
     blocks: &mut [u32],
     adjustments: &mut [u32],
 )
-    requires opened { Opened f.now h (arrays_now tops ends blocks adjustments) }
+    requires opened { Opened f.now h (arrays tops.old ends.old blocks.old adjustments.old) }
     requires interval_count_in_bounds { h.interval_count ≤ length own.now }
-    ensures { left tops ends blocks adjustments ≡ out_over f.now h own.now (given tops ends blocks adjustments) }
+    ensures { arrays tops.new ends.new blocks.new adjustments.new ≡ out_over f.now h own.now (arrays tops.old ends.old blocks.old adjustments.old) }
 {
     let block_count = h.block_count as usize;
     let interval_count = h.interval_count as usize;

@@ -1,4 +1,6 @@
 // Rules 12 to 15 of a file, judged where it lies, and its adjustments. `h` is the header that the file says.
+#![tactic(auto)]
+
 ghost use Rattle.std.specs.Prelude.{◌≡◌, ◌≤◌, ◌<◌, length, get_or, replicate};
 ghost use Rattle.model.specs.Basics.{from};
 ghost use Rattle.model.specs.Limits.{max_blocks};
@@ -80,7 +82,7 @@ fn adjust(f: &[u8], h: Header, out: &mut [u32], sums: &mut [u32; BLOCKS])
     requires counted { (Counted f.now h) × (h.interval_count ≤ length out.old) × (sums.old ≡ replicate max_blocks 0) }
     requires intervals_right { IntervalsRight h (file_arrays f.now h).ends (file_arrays f.now h).blocks }
     ensures held { Held h (file_arrays f.now h).ends (file_arrays f.now h).blocks sums.new }
-    ensures out_after { out.new ≡ over (from (adjustment_of h (file_arrays f.now h)) 0 h.interval_count) out.old }
+    ensures out_left { out.new ≡ over (from (adjustment_of h (file_arrays f.now h)) 0 h.interval_count) out.old }
 {
     let count = h.interval_count as usize;
     let pairs = count / 2;

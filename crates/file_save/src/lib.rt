@@ -1,4 +1,6 @@
 // Saving: document 01, 'A saved map has 4-byte numbers, low byte first'.
+#![tactic(auto)]
+
 ghost use Rattle.std.specs.Prelude.{◌≡◌, [], map, ◌+◌, ◌*◌, ◌≤◌, length, take};
 ghost use Rattle.std.proofs.lemmas.List.Edits.{sets};
 ghost use Rattle.model.specs.Basics.{joined};
@@ -68,7 +70,7 @@ fn write_saved(h: Header, tops: &[u32], ends: &[u32], blocks: &[u32], out: &mut 
 pub fn saved(h: Header, tops: &[u32], ends: &[u32], blocks: &[u32], buffer: &mut [u8]) -> SaveReply
     requires { SpansFormed h tops.now ends.now blocks.now }
     ensures value { result ≡ save_answer (first (save_tests h buffer.old)) h }
-    ensures buffer_after { buffer.new ≡ save_after (first (save_tests h buffer.old))
+    ensures buffer_left { buffer.new ≡ save_after (first (save_tests h buffer.old))
         (table h (arrays tops.now ends.now blocks.now [])) buffer.old }
 {
     let length = 12 + 4 * h.block_count + 8 * h.interval_count;

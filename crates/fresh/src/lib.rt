@@ -1,7 +1,8 @@
 // A fresh map's table, in arrays with room for any.
+#![tactic(auto)]
+
 ghost use Rattle.std.specs.Prelude.{◌≡◌, false};
-ghost use Rattle.model.specs.Lent.{given, left, arrays_now};
-ghost use Rattle.model.specs.Table.{sizes};
+ghost use Rattle.model.specs.Table.{sizes, arrays};
 ghost use Rattle.model.specs.Refusal.{room_short};
 ghost use Rattle.model.specs.Initial.{initial};
 ghost use Rattle.model.specs.Calls.{table_reply, arrays_after};
@@ -22,10 +23,10 @@ pub fn mapped(
     blocks: &mut [u32],
     adjustments: &mut [u32],
 ) -> TableReply
-    requires { room_short (arrays_now tops ends blocks adjustments) ≡ false }
+    requires { room_short (arrays tops.old ends.old blocks.old adjustments.old) ≡ false }
     ensures value { result ≡ table_reply (fresh_refusal (sizes buckets bins) capacity) 0 (initial (sizes buckets bins) capacity) }
-    ensures adjustments_value { left tops ends blocks adjustments ≡ arrays_after (fresh_refusal (sizes buckets bins) capacity) (initial (sizes buckets bins) capacity)
-        (given tops ends blocks adjustments) }
+    ensures arrays_left { arrays tops.new ends.new blocks.new adjustments.new ≡ arrays_after (fresh_refusal (sizes buckets bins) capacity) (initial (sizes buckets bins) capacity)
+        (arrays tops.old ends.old blocks.old adjustments.old) }
 {
     if is_outside(MAX_CAPACITY, capacity) {
         return refused_table(30);

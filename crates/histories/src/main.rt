@@ -1,5 +1,7 @@
 // Plays histories through the public calls, compares every map with a full directory of buckets, and prints what it counted.
 // The random ones come from a fixed seed, so that a run is like any other.
+#![tactic(auto)]
+
 mod ask;
 mod compare;
 mod directory;

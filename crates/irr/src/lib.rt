@@ -1,28 +1,10 @@
 // The public calls of the placement map. Each takes any numbers and any arrays, and answers the full result or one refusal
 // number of document 01. A lent table is a header and four arrays: tops, ends, blocks, adjustments.
+#![tactic(auto)]
+
 ghost use Rattle.std.specs.Prelude.{◌≡◌};
-ghost use Rattle.model.specs.Lent.{given, left};
-ghost use Rattle.model.specs.Table.{sizes};
-ghost use Rattle.model.specs.Calls.{
-  initial_reply,
-  initial_arrays,
-  expand_reply,
-  expand_arrays,
-  relocations_reply,
-  relocations_rows,
-  place_reply,
-  places_reply,
-  places_after,
-  find_reply,
-  bin_size_reply,
-  room_reply,
-  save_reply,
-  save_bytes,
-  load_reply,
-  load_arrays,
-  sheet_reply,
-  sheet_bytes,
-};
+ghost use Rattle.model.specs.Table.{sizes, arrays};
+ghost use Rattle.model.specs.Calls.{initial_reply, initial_arrays, expand_reply, expand_arrays, relocations_reply, relocations_rows, place_reply, places_reply, places_after, find_reply, bin_size_reply, room_reply, save_reply, save_bytes, load_reply, load_arrays, sheet_reply, sheet_bytes};
 
 use model::reply::{
     BinSizeReply, FindReply, LoadReply, PlaceReply, PlacesReply, RelocationsReply, RoomReply,
@@ -40,8 +22,8 @@ pub fn initial(
     blocks: &mut [u32],
     adjustments: &mut [u32],
 ) -> TableReply
-    ensures value { result ≡ initial_reply (sizes buckets bins) capacity (given tops ends blocks adjustments) }
-    ensures adjustments_value { left tops ends blocks adjustments ≡ initial_arrays (sizes buckets bins) capacity (given tops ends blocks adjustments) }
+    ensures value { result ≡ initial_reply (sizes buckets bins) capacity (arrays tops.old ends.old blocks.old adjustments.old) }
+    ensures arrays_left { arrays tops.new ends.new blocks.new adjustments.new ≡ initial_arrays (sizes buckets bins) capacity (arrays tops.old ends.old blocks.old adjustments.old) }
 {
     if sizes::room_short(tops, ends, blocks, adjustments) {
         return sizes::refused_table(21);
@@ -63,10 +45,10 @@ pub fn expand(
     new_blocks: &mut [u32],
     new_adjustments: &mut [u32],
 ) -> TableReply
-    ensures value { result ≡ expand_reply header (given tops ends blocks adjustments) (sizes buckets bins)
-        (given new_tops new_ends new_blocks new_adjustments) }
-    ensures new_adjustments_value { left new_tops new_ends new_blocks new_adjustments ≡ expand_arrays header (given tops ends blocks adjustments)
-        (sizes buckets bins) (given new_tops new_ends new_blocks new_adjustments) }
+    ensures value { result ≡ expand_reply header (arrays tops.now ends.now blocks.now adjustments.now) (sizes buckets bins)
+        (arrays new_tops.old new_ends.old new_blocks.old new_adjustments.old) }
+    ensures arrays_left { arrays new_tops.new new_ends.new new_blocks.new new_adjustments.new ≡ expand_arrays header (arrays tops.now ends.now blocks.now adjustments.now)
+        (sizes buckets bins) (arrays new_tops.old new_ends.old new_blocks.old new_adjustments.old) }
 {
     if sizes::room_short(new_tops, new_ends, new_blocks, new_adjustments) {
         return sizes::refused_table(21);
@@ -102,8 +84,8 @@ pub fn relocations(
     first: u32,
     rows: &mut [u32],
 ) -> RelocationsReply
-    ensures value { result ≡ relocations_reply header (given tops ends blocks adjustments) (sizes buckets bins) first rows.old }
-    ensures rows_after { rows.new ≡ relocations_rows header (given tops ends blocks adjustments) (sizes buckets bins) first rows.old }
+    ensures value { result ≡ relocations_reply header (arrays tops.now ends.now blocks.now adjustments.now) (sizes buckets bins) first rows.old }
+    ensures rows_left { rows.new ≡ relocations_rows header (arrays tops.now ends.now blocks.now adjustments.now) (sizes buckets bins) first rows.old }
 {
     let refusal = soundness::check(header, tops, ends, blocks, adjustments);
     if refusal != 0 {
@@ -135,7 +117,7 @@ pub fn place(
     adjustments: &[u32],
     bucket: u32,
 ) -> PlaceReply
-    ensures { result ≡ place_reply header (given tops ends blocks adjustments) bucket }
+    ensures { result ≡ place_reply header (arrays tops.now ends.now blocks.now adjustments.now) bucket }
 {
     let refusal = soundness::check(header, tops, ends, blocks, adjustments);
     if refusal != 0 {
@@ -158,8 +140,8 @@ pub fn places(
     buckets: &[u32],
     places: &mut [u32],
 ) -> PlacesReply
-    ensures value { result ≡ places_reply header (given tops ends blocks adjustments) buckets.now places.old }
-    ensures places_after { places.new ≡ places_after header (given tops ends blocks adjustments) buckets.now places.old }
+    ensures value { result ≡ places_reply header (arrays tops.now ends.now blocks.now adjustments.now) buckets.now places.old }
+    ensures places_left { places.new ≡ places_after header (arrays tops.now ends.now blocks.now adjustments.now) buckets.now places.old }
 {
     // two numbers a bucket, without a product that may pass the largest usize
     if places.len() / 2 < buckets.len() {
@@ -184,7 +166,7 @@ pub fn find(
     bin: u32,
     position: u32,
 ) -> FindReply
-    ensures { result ≡ find_reply header (given tops ends blocks adjustments) bin position }
+    ensures { result ≡ find_reply header (arrays tops.now ends.now blocks.now adjustments.now) bin position }
 {
     let refusal = soundness::check(header, tops, ends, blocks, adjustments);
     if refusal != 0 {
@@ -202,7 +184,7 @@ pub fn bin_size(
     adjustments: &[u32],
     bin: u32,
 ) -> BinSizeReply
-    ensures { result ≡ bin_size_reply header (given tops ends blocks adjustments) bin }
+    ensures { result ≡ bin_size_reply header (arrays tops.now ends.now blocks.now adjustments.now) bin }
 {
     // The check asks this too. Asked here, the compiler takes each length by itself: a pointer and a length that it copies at once,
     // since nothing else here reads them, wait for the caller's stores of the two.
@@ -238,8 +220,8 @@ pub fn save(
     adjustments: &[u32],
     buffer: &mut [u8],
 ) -> SaveReply
-    ensures value { result ≡ save_reply header (given tops ends blocks adjustments) buffer.old }
-    ensures buffer_after { buffer.new ≡ save_bytes header (given tops ends blocks adjustments) buffer.old }
+    ensures value { result ≡ save_reply header (arrays tops.now ends.now blocks.now adjustments.now) buffer.old }
+    ensures buffer_left { buffer.new ≡ save_bytes header (arrays tops.now ends.now blocks.now adjustments.now) buffer.old }
 {
     let refusal = soundness::check(header, tops, ends, blocks, adjustments);
     if refusal != 0 {
@@ -257,8 +239,8 @@ pub fn load(
     blocks: &mut [u32],
     adjustments: &mut [u32],
 ) -> LoadReply
-    ensures value { result ≡ load_reply bytes.now capacity (given tops ends blocks adjustments) }
-    ensures adjustments_value { left tops ends blocks adjustments ≡ load_arrays bytes.now capacity (given tops ends blocks adjustments) }
+    ensures value { result ≡ load_reply bytes.now capacity (arrays tops.old ends.old blocks.old adjustments.old) }
+    ensures arrays_left { arrays tops.new ends.new blocks.new adjustments.new ≡ load_arrays bytes.now capacity (arrays tops.old ends.old blocks.old adjustments.old) }
 {
     if sizes::room_short(tops, ends, blocks, adjustments) {
         return refused_load(21);
@@ -275,8 +257,8 @@ pub fn sheet(
     adjustments: &[u32],
     buffer: &mut [u8],
 ) -> SheetReply
-    ensures value { result ≡ sheet_reply header (given tops ends blocks adjustments) buffer.old }
-    ensures buffer_after { buffer.new ≡ sheet_bytes header (given tops ends blocks adjustments) buffer.old }
+    ensures value { result ≡ sheet_reply header (arrays tops.now ends.now blocks.now adjustments.now) buffer.old }
+    ensures buffer_left { buffer.new ≡ sheet_bytes header (arrays tops.now ends.now blocks.now adjustments.now) buffer.old }
 {
     let refusal = soundness::check(header, tops, ends, blocks, adjustments);
     if refusal != 0 {

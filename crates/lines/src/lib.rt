@@ -1,4 +1,6 @@
 // The program's lines: cut from the input, and read.
+#![tactic(auto)]
+
 pub mod asked;
 
 ghost use Rattle.std.specs.Prelude.{◌+◌, ◌≤◌, ◌≡◌, length, take, drop};

@@ -1,4 +1,6 @@
 // The program on an empty input.
+#![tactic(auto)]
+
 fn main() {
     let mut input_log = [0; 0];
     let mut text_log = [0; 0];

@@ -1,4 +1,6 @@
 // The program on histories to 65 blocks and 2,081 intervals, move lists of every length, and a last line with no line feed.
+#![tactic(auto)]
+
 fn main() {
     let mut input_log = [0; 0];
     let mut text_log = [0; 0];

@@ -1,4 +1,6 @@
 // The program on unreadable lines of every kind, before and after the first map, and on numbers at every limit.
+#![tactic(auto)]
+
 fn main() {
     let mut input_log = [0; 0];
     let mut text_log = [0; 0];

@@ -1,6 +1,8 @@
 // What reads a formed table. Nothing here checks it again.
+#![tactic(auto)]
+
 ghost use Rattle.std.specs.Prelude.{ℕ, ◌+◌, ◌^◌, ◌<◌, ◌≤◌, ◌⊎◌, List, ◌≡◌, length, get_or, take};
-ghost use Rattle.model.specs.Lent.{lent, LentFormed, TopsFormed, table_given, table_now};
+ghost use Rattle.model.specs.Lent.{lent, LentFormed, TopsFormed};
 ghost use Rattle.model.specs.Limits.{max_buckets, label};
 ghost use Rattle.model.specs.Table.{arrays, bins as bins_of, first_bin};
 ghost use Rattle.model.specs.Place.{bin_of, position_of};
@@ -94,8 +96,8 @@ pub fn placed(
     adjustments: &[u32],
     bucket: u32,
 ) -> PlaceReply
-    requires { LentFormed h tops ends blocks adjustments }
-    ensures { result ≡ place_at (table_given h tops ends blocks adjustments) bucket }
+    requires { LentFormed h tops.now ends.now blocks.now adjustments.now }
+    ensures { result ≡ place_at (lent h tops.now ends.now blocks.now adjustments.now) bucket }
 {
     let Located::At { interval, rank } = locate(h, ends, adjustments, bucket) else {
         return PlaceReply {
@@ -193,9 +195,9 @@ fn bucket_at(
     bin: u32,
     past: u32,
 ) -> FindReply
-    requires lent_formed { LentFormed h tops ends blocks adjustments }
-    requires bin_bound { bin < bins_of (table_now h tops ends blocks adjustments) }
-    ensures { result ≡ found_at (table_given h tops ends blocks adjustments) bin (past + label) }
+    requires lent_formed { LentFormed h tops.now ends.now blocks.now adjustments.now }
+    requires bin_bound { bin < bins_of (lent h tops.now ends.now blocks.now adjustments.now) }
+    ensures { result ≡ found_at (lent h tops.now ends.now blocks.now adjustments.now) bin (past + label) }
 {
     let block = block_of_bin(tops, h.block_count as usize, bin);
     let low = before(tops, block);
@@ -223,9 +225,9 @@ pub fn found(
     bin: u32,
     position: u32,
 ) -> FindReply
-    requires { LentFormed h tops ends blocks adjustments }
-    ensures { result ≡ find_answer (first (find_tests (table_given h tops ends blocks adjustments) bin position))
-        (table_given h tops ends blocks adjustments) bin position }
+    requires { LentFormed h tops.now ends.now blocks.now adjustments.now }
+    ensures { result ≡ find_answer (first (find_tests (lent h tops.now ends.now blocks.now adjustments.now) bin position))
+        (lent h tops.now ends.now blocks.now adjustments.now) bin position }
 {
     if bin_count(h, tops) <= bin {
         return FindReply {

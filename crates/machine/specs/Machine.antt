@@ -1,7 +1,6 @@
 -- A turn of the machine. Assumes nothing.
 use Rattle.std.specs.Prelude.{ℕ, ◌≤◌, ◌≡◌, false, List, length, take}
-use Rattle.model.specs.Lent.{Lents}
-use Rattle.console.specs.Rack.{Rack, rack_given, rack_left}
+use Rattle.console.specs.Rack.{Rack}
 use Rattle.standing.specs.Standing.{Turned}
 use Rattle.buffers.specs.Machine.{stands, bytes_of, Ready, Rests}
 use Rattle.buffers.specs.declared.Machine.{Machine}
@@ -14,9 +13,3 @@ pub record Turns (m : Machine) (k : Rack) (block : List ℕ) (r : After) (k' : R
   pub ready : Ready r.machine k' block'
   pub room : r.put ≤ length out
   pub rests : r.more ≡ false → Rests r.machine block'
-
--- the same of lent arrays
-abbrev pub MakesTurn : Machine → Lents → Lents → Lents → Lents → Lents → Lents → Lents → Lents → Lents → Lents → After → Type 0
-MakesTurn m block t e b a t₂ e₂ b₂ a₂ out r =
-    Turns m (rack_given m.state t e b a t₂ e₂ b₂ a₂) block.entry.now r
-    (rack_left r.machine.state t e b a t₂ e₂ b₂ a₂) block.exit.now out.exit.now

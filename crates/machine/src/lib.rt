@@ -1,6 +1,9 @@
+#![tactic(auto)]
+
+ghost use Rattle.console.specs.Rack.{rack_of};
 // The program without its input and output: a machine that is given blocks of bytes, and puts what it prints into a buffer.
 ghost use Rattle.buffers.specs.Machine.{ReadyNow};
-ghost use Rattle.machine.specs.Machine.{MakesTurn};
+ghost use Rattle.machine.specs.Machine.{Turns};
 
 use answers::answer;
 use buffers::{Machine, NUMBERS, OUT, keep};
@@ -22,8 +25,9 @@ pub fn turn(
     rows: &mut [u32; NUMBERS],
     out: &mut [u8; OUT],
 ) -> After
-    requires { ReadyNow m block tops ends blocks adjustments second_tops second_ends second_blocks second_adjustments }
-    ensures { MakesTurn m block tops ends blocks adjustments second_tops second_ends second_blocks second_adjustments out result }
+    requires { ReadyNow m block.old tops.old ends.old blocks.old adjustments.old second_tops.old second_ends.old second_blocks.old second_adjustments.old }
+    ensures { Turns m (rack_of m.state tops.old ends.old blocks.old adjustments.old second_tops.old second_ends.old second_blocks.old second_adjustments.old) block.old result
+            (rack_of result.machine.state tops.new ends.new blocks.new adjustments.new second_tops.new second_ends.new second_blocks.new second_adjustments.new) block.new out.new }
 {
     let listed = page(
         m,

@@ -1,4 +1,6 @@
 // The placement map of document 01: the types that its calls share. Its definitions are in specs/.
+#![tactic(auto)]
+
 ghost use Rattle.model.specs.Claims.{Claims};
 ghost use Rattle.model.specs.TableClaims.{TableClaims};
 ghost use Rattle.model.specs.ExpansionClaims.{ExpansionClaims};

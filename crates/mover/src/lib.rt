@@ -1,8 +1,9 @@
 // The mover: one call carries the word of one moved bucket to its new place. What is proved of runs of calls, power cuts included,
 // is in specs/Claims.antt.
+#![tactic(auto)]
+
 ghost use Rattle.std.specs.Prelude.{◌<◌, [], ◌∷◌, ◌≡◌, length, get_or, set};
-ghost use Rattle.model.specs.Lent.{given, arrays_now};
-ghost use Rattle.model.specs.Table.{sizes};
+ghost use Rattle.model.specs.Table.{sizes, arrays};
 ghost use Rattle.model.specs.Refusal.{first};
 ghost use Rattle.mover.specs.Carry.{growth, total, word_at, copied, carry_reply, carry_words};
 ghost use Rattle.mover.specs.Ready.{Ready};
@@ -44,9 +45,9 @@ fn carry_row(
     words: &mut [u32],
     order: u32,
 )
-    requires ready { Ready (growth header (arrays_now tops ends blocks adjustments) (sizes buckets bins)) words.old }
-    requires order_bound { order < total (growth header (arrays_now tops ends blocks adjustments) (sizes buckets bins)) }
-    ensures { words.new ≡ copied (growth header (given tops ends blocks adjustments) (sizes buckets bins)) order words.old }
+    requires ready { Ready (growth header (arrays tops.now ends.now blocks.now adjustments.now) (sizes buckets bins)) words.old }
+    requires order_bound { order < total (growth header (arrays tops.now ends.now blocks.now adjustments.now) (sizes buckets bins)) }
+    ensures { words.new ≡ copied (growth header (arrays tops.now ends.now blocks.now adjustments.now) (sizes buckets bins)) order words.old }
 {
     let places = row_places(
         header,
@@ -111,9 +112,9 @@ pub fn carry(
     words: &mut [u32],
     mark: u32,
 ) -> CarryReply
-    ensures value { result ≡ carry_reply (growth header (given tops ends blocks adjustments) (sizes buckets bins)) words.old mark }
-    ensures words_after { words.new
-        ≡ carry_words (growth header (given tops ends blocks adjustments) (sizes buckets bins)) words.old mark }
+    ensures value { result ≡ carry_reply (growth header (arrays tops.now ends.now blocks.now adjustments.now) (sizes buckets bins)) words.old mark }
+    ensures words_left { words.new
+        ≡ carry_words (growth header (arrays tops.now ends.now blocks.now adjustments.now) (sizes buckets bins)) words.old mark }
 {
     let wrong = soundness::check(header, tops, ends, blocks, adjustments);
     if wrong != 0 {

@@ -1,7 +1,8 @@
 // The mover: one call carries the word of one moved bucket to its new place. What is proved of runs of calls, power cuts included,
 // is in specs/Claims.antt, and what is proved of blank buckets in specs/WrittenClaims.antt.
+#![tactic(auto)]
+
 ghost use Rattle.std.specs.Prelude.{ℕ, ◌*◌, ◌<◌, not, false, List, [], ◌∷◌, ◌≡◌, length, get_or, set};
-ghost use Rattle.model.specs.Lent.{given};
 ghost use Rattle.model.specs.Table.{arrays, sizes};
 ghost use Rattle.model.specs.Refusal.{first};
 ghost use Rattle.model.specs.Sound.{Sound};
@@ -55,7 +56,7 @@ fn table_refusal(
     blocks: &[u32],
     adjustments: &[u32],
 ) -> u32
-    ensures { result ≡ first (table_tests header (given tops ends blocks adjustments)) }
+    ensures { result ≡ first (table_tests header (arrays tops.now ends.now blocks.now adjustments.now)) }
 {
     if soundness::arrays_short(header, tops, ends, blocks, adjustments) {
         return 11;
@@ -175,9 +176,9 @@ pub fn carry(
     words: &mut [u32],
     mark: u32,
 ) -> CarryReply
-    ensures value { result ≡ carry_reply (growth header (given tops ends blocks adjustments) (sizes buckets bins)) every words.old mark }
-    ensures words_after { words.new
-        ≡ carry_words (growth header (given tops ends blocks adjustments) (sizes buckets bins)) every words.old mark }
+    ensures value { result ≡ carry_reply (growth header (arrays tops.now ends.now blocks.now adjustments.now) (sizes buckets bins)) every words.old mark }
+    ensures words_left { words.new
+        ≡ carry_words (growth header (arrays tops.now ends.now blocks.now adjustments.now) (sizes buckets bins)) every words.old mark }
 {
     let wrong = table_refusal(header, tops, ends, blocks, adjustments);
     if wrong != 0 {
@@ -206,10 +207,10 @@ pub fn carry_written(
     mark: u32,
 ) -> CarryReply
     ensures value { result
-        ≡ carry_reply (growth header (given tops ends blocks adjustments) (sizes buckets bins)) (told_bits bits.now)
+        ≡ carry_reply (growth header (arrays tops.now ends.now blocks.now adjustments.now) (sizes buckets bins)) (told_bits bits.now)
         words.old mark }
-    ensures words_after { words.new
-        ≡ carry_words (growth header (given tops ends blocks adjustments) (sizes buckets bins)) (told_bits bits.now)
+    ensures words_left { words.new
+        ≡ carry_words (growth header (arrays tops.now ends.now blocks.now adjustments.now) (sizes buckets bins)) (told_bits bits.now)
         words.old mark }
 {
     let wrong = table_refusal(header, tops, ends, blocks, adjustments);

@@ -1,6 +1,9 @@
+#![tactic(auto)]
+
+ghost use Rattle.console.specs.Rack.{rack_of};
 // A page of the move list in progress, put by the machine.
 ghost use Rattle.buffers.specs.Machine.{SaneNow};
-ghost use Rattle.pages.specs.Pages.{PutsPage};
+ghost use Rattle.pages.specs.Pages.{Pages};
 
 use buffers::{Machine, NUMBERS, OUT};
 use console::list::list;
@@ -28,8 +31,9 @@ pub fn page(
     rows: &mut [u32; NUMBERS],
     out: &mut [u8; OUT],
 ) -> After
-    requires { SaneNow m tops ends blocks adjustments second_tops second_ends second_blocks second_adjustments }
-    ensures { PutsPage m tops ends blocks adjustments second_tops second_ends second_blocks second_adjustments out result }
+    requires { SaneNow m tops.now ends.now blocks.now adjustments.now second_tops.now second_ends.now second_blocks.now second_adjustments.now }
+    ensures { Pages m (rack_of m.state tops.now ends.now blocks.now adjustments.now second_tops.now second_ends.now second_blocks.now second_adjustments.now) out.old result
+            (rack_of result.machine.state tops.now ends.now blocks.now adjustments.now second_tops.now second_ends.now second_blocks.now second_adjustments.now) out.new }
 {
     let state = m.state;
     if m.listing {

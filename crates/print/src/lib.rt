@@ -1,5 +1,7 @@
 // The program's printed lines: document 01, 'The program rackmap'. Each is a word, its numbers and a line feed.
 // Every function writes its text over the bytes from `at` on, and answers the place behind it.
+#![tactic(auto)]
+
 ghost use Rattle.std.specs.Prelude.{[], ◌∷◌, ◌≡◌, ◌+◌, ◌≤◌, length};
 ghost use Rattle.std.proofs.lemmas.List.Edits.{sets};
 ghost use Rattle.model.specs.Console.{line};

@@ -1,4 +1,6 @@
 // The program rackmap: lines on standard input, replies on standard output.
+#![tactic(auto)]
+
 fn main() {
     let mut input_log = [0; 0];
     let mut text_log = [0; 0];

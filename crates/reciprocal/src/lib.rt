@@ -1,4 +1,6 @@
 // Division of many numbers by one: each is multiplied by the divisor's reciprocal, and shifted.
+#![tactic(auto)]
+
 ghost use Rattle.std.specs.Prelude.{ℕ, ◌/◌, ◌^◌, ◌<◌, ◌≤◌, ◌≡◌};
 ghost use Rattle.reciprocal.specs.Divides.{Divides};
 

@@ -1,6 +1,8 @@
 // The move list: the rows of the buckets that a growth moves.
+#![tactic(auto)]
+
 ghost use Rattle.std.specs.Prelude.{ℕ, ◌+◌, ◌-◌, ◌/◌, ◌%◌, ◌<◌, ◌≡◌, List, [], length};
-ghost use Rattle.model.specs.Lent.{LentFormed, lent, table_given, table_now};
+ghost use Rattle.model.specs.Lent.{LentFormed, lent};
 ghost use Rattle.model.specs.Basics.{from, joined};
 ghost use Rattle.model.specs.Table.{arrays, interval, over, sizes};
 ghost use Rattle.model.specs.Refusal.{first as first_of};
@@ -107,12 +109,12 @@ fn write_moved(
     first: u32,
     rows: &mut [u32],
 )
-    requires lent_formed { LentFormed h tops ends blocks adjustments }
-    requires by_index { (buckets : ℕ) × Moves (table_now h tops ends blocks adjustments) (sizes buckets bins) dues.now }
-    ensures { (buckets : ℕ) → Moves (table_given h tops ends blocks adjustments) (sizes buckets bins) dues.now
+    requires lent_formed { LentFormed h tops.now ends.now blocks.now adjustments.now }
+    requires by_index { (buckets : ℕ) × Moves (lent h tops.now ends.now blocks.now adjustments.now) (sizes buckets bins) dues.now }
+    ensures { (buckets : ℕ) → Moves (lent h tops.now ends.now blocks.now adjustments.now) (sizes buckets bins) dues.now
         → rows.new
         ≡ over
-        (joined (page first (length rows.old) (moves_of (table_given h tops ends blocks adjustments) (sizes buckets bins))))
+        (joined (page first (length rows.old) (moves_of (lent h tops.now ends.now blocks.now adjustments.now) (sizes buckets bins))))
         rows.old }
 {
     let old_bins = bin_count(h, tops);
@@ -170,12 +172,12 @@ pub fn write_relocations(
     left: u32,
     rows: &mut [u32],
 ) -> u32
-    requires lent_formed { LentFormed h tops ends blocks adjustments }
-    requires bins_value { first_of (growth_tests (table_now h tops ends blocks adjustments) (sizes buckets bins)) ≡ 0 }
-    requires left_value { first + left ≡ length (moves_of (table_now h tops ends blocks adjustments) (sizes buckets bins)) }
-    ensures value { result ≡ length (page first (length rows.old) (moves_of (table_given h tops ends blocks adjustments) (sizes buckets bins))) }
-    ensures rows_after { rows.new ≡ over
-        (joined (page first (length rows.old) (moves_of (table_given h tops ends blocks adjustments) (sizes buckets bins))))
+    requires lent_formed { LentFormed h tops.now ends.now blocks.now adjustments.now }
+    requires bins_value { first_of (growth_tests (lent h tops.now ends.now blocks.now adjustments.now) (sizes buckets bins)) ≡ 0 }
+    requires left_value { first + left ≡ length (moves_of (lent h tops.now ends.now blocks.now adjustments.now) (sizes buckets bins)) }
+    ensures value { result ≡ length (page first (length rows.old) (moves_of (lent h tops.now ends.now blocks.now adjustments.now) (sizes buckets bins))) }
+    ensures rows_left { rows.new ≡ over
+        (joined (page first (length rows.old) (moves_of (lent h tops.now ends.now blocks.now adjustments.now) (sizes buckets bins))))
         rows.old }
 {
     if left == 0 {

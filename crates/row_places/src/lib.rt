@@ -1,6 +1,8 @@
 // The places of one row of the move list: its bucket is found by one walk of the old intervals.
+#![tactic(auto)]
+
 ghost use Rattle.std.specs.Prelude.{ℕ, ◌+◌, min, max, ◌≤◌, ◌<◌, List, [], ◌≡◌, length, get_or};
-ghost use Rattle.model.specs.Lent.{LentFormed, arrays_now, given, table_now};
+ghost use Rattle.model.specs.Lent.{LentFormed, lent};
 ghost use Rattle.model.specs.Table.{Shape, arrays, sizes};
 ghost use Rattle.model.specs.Refusal.{first};
 ghost use Rattle.model.specs.Calls.{growth_tests, rows_of};
@@ -91,9 +93,9 @@ fn bucket_by(
     order: u32,
     dues: &mut [u32],
 ) -> Moved
-    requires listed { Listed h (arrays_now tops ends blocks adjustments) (sizes buckets bins) order }
+    requires listed { Listed h (arrays tops.now ends.now blocks.now adjustments.now) (sizes buckets bins) order }
     requires block_count_in_bounds { h.block_count ≤ length dues.old }
-    ensures { RowBucket h (given tops ends blocks adjustments) (sizes buckets bins) order result.interval result.bucket }
+    ensures { RowBucket h (arrays tops.now ends.now blocks.now adjustments.now) (sizes buckets bins) order result.interval result.bucket }
 {
     block_dues(tops, h.block_count as usize, buckets, bins, dues);
     bucket_at(h, ends, blocks, adjustments, dues, order)
@@ -110,8 +112,8 @@ fn bucket_of(
     bins: u32,
     order: u32,
 ) -> Moved
-    requires { Listed h (arrays_now tops ends blocks adjustments) (sizes buckets bins) order }
-    ensures { RowBucket h (given tops ends blocks adjustments) (sizes buckets bins) order result.interval result.bucket }
+    requires { Listed h (arrays tops.now ends.now blocks.now adjustments.now) (sizes buckets bins) order }
+    ensures { RowBucket h (arrays tops.now ends.now blocks.now adjustments.now) (sizes buckets bins) order result.interval result.bucket }
 {
     if h.block_count as usize <= FEW {
         let mut dues = [0u32; FEW];
@@ -152,10 +154,10 @@ pub fn row_places(
     bins: u32,
     order: u32,
 ) -> RowPlaces
-    requires lent_formed { LentFormed h tops ends blocks adjustments }
-    requires bins_value { first (growth_tests (table_now h tops ends blocks adjustments) (sizes buckets bins)) ≡ 0 }
-    requires order_in_bounds { order < length (rows_of h (arrays_now tops ends blocks adjustments) (sizes buckets bins)) }
-    ensures { result ≡ places_of (get_or (rows_of h (given tops ends blocks adjustments) (sizes buckets bins)) order []) }
+    requires lent_formed { LentFormed h tops.now ends.now blocks.now adjustments.now }
+    requires bins_value { first (growth_tests (lent h tops.now ends.now blocks.now adjustments.now) (sizes buckets bins)) ≡ 0 }
+    requires order_in_bounds { order < length (rows_of h (arrays tops.now ends.now blocks.now adjustments.now) (sizes buckets bins)) }
+    ensures { result ≡ places_of (get_or (rows_of h (arrays tops.now ends.now blocks.now adjustments.now) (sizes buckets bins)) order []) }
 {
     let moved = bucket_of(h, tops, ends, blocks, adjustments, buckets, bins, order);
     let i = moved.interval;

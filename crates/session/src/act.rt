@@ -1,11 +1,11 @@
 // One command of a session.
 ghost use Rattle.std.specs.Prelude.{◌≡◌, false, not};
 ghost use Rattle.model.specs.Basics.{◌and◌};
-ghost use Rattle.model.specs.Lent.{given, left, arrays_now};
 ghost use Rattle.model.specs.Refusal.{room_short};
 ghost use Rattle.model.specs.Console.{is_fresh, is_unreadable};
 ghost use Rattle.model.specs.declared.command.Command.TheVariants as line;
 ghost use Rattle.model.specs.declared.answer.Answer.TheVariants as says;
+ghost use Rattle.model.specs.Table.{arrays};
 ghost use Rattle.session.specs.Maps.{maps, is_empty as empty_at, HasMap, LineTested, Renews, Reads, Stepped, Right};
 
 use crate::state::{Stage, State, Step};
@@ -96,8 +96,8 @@ fn fresh(
     blocks: &mut [u32],
     adjustments: &mut [u32],
 ) -> Step
-    requires { room_short (arrays_now tops ends blocks adjustments) ≡ false }
-    ensures { Renews state (given tops ends blocks adjustments) (line.Fresh buckets bins) result (left tops ends blocks adjustments) }
+    requires { room_short (arrays tops.old ends.old blocks.old adjustments.old) ≡ false }
+    ensures { Renews state (arrays tops.old ends.old blocks.old adjustments.old) (line.Fresh buckets bins) result (arrays tops.new ends.new blocks.new adjustments.new) }
 {
     let wrong = sizes::fresh_refusal(buckets, bins, MAX_CAPACITY);
     if wrong != 0 {
@@ -140,10 +140,10 @@ fn grow(
     new_blocks: &mut [u32],
     new_adjustments: &mut [u32],
 ) -> Step
-    requires has_map { HasMap state (arrays_now tops ends blocks adjustments) }
-    requires new_adjustments_value { room_short (arrays_now new_tops new_ends new_blocks new_adjustments) ≡ false }
-    ensures { Stepped (maps state (given tops ends blocks adjustments) (given new_tops new_ends new_blocks new_adjustments))
-        (line.Grow buckets bins) result (given tops ends blocks adjustments) (left new_tops new_ends new_blocks new_adjustments) }
+    requires has_map { HasMap state (arrays tops.now ends.now blocks.now adjustments.now) }
+    requires room { room_short (arrays new_tops.old new_ends.old new_blocks.old new_adjustments.old) ≡ false }
+    ensures { Stepped (maps state (arrays tops.now ends.now blocks.now adjustments.now) (arrays new_tops.old new_ends.old new_blocks.old new_adjustments.old))
+        (line.Grow buckets bins) result (arrays tops.now ends.now blocks.now adjustments.now) (arrays new_tops.new new_ends.new new_blocks.new new_adjustments.new) }
 {
     let header = state.current;
     let grown = expansion::grown(
@@ -188,8 +188,8 @@ fn place(
     adjustments: &[u32],
     bucket: u32,
 ) -> Step
-    requires { HasMap state (arrays_now tops ends blocks adjustments) }
-    ensures { Reads state (given tops ends blocks adjustments) (line.Where bucket) result }
+    requires { HasMap state (arrays tops.now ends.now blocks.now adjustments.now) }
+    ensures { Reads state (arrays tops.now ends.now blocks.now adjustments.now) (line.Where bucket) result }
 {
     let header = state.current;
     let reply = lookup::placed(header, tops, ends, blocks, adjustments, bucket);
@@ -215,8 +215,8 @@ fn find(
     bin: u32,
     position: u32,
 ) -> Step
-    requires { HasMap state (arrays_now tops ends blocks adjustments) }
-    ensures { Reads state (given tops ends blocks adjustments) (line.At bin position) result }
+    requires { HasMap state (arrays tops.now ends.now blocks.now adjustments.now) }
+    ensures { Reads state (arrays tops.now ends.now blocks.now adjustments.now) (line.At bin position) result }
 {
     let header = state.current;
     let reply = lookup::found(header, tops, ends, blocks, adjustments, bin, position);
@@ -244,10 +244,10 @@ pub fn act(
     other_blocks: &mut [u32],
     other_adjustments: &mut [u32],
 ) -> Step
-    requires { Right (maps state (arrays_now tops ends blocks adjustments) (arrays_now other_tops other_ends other_blocks other_adjustments)) }
+    requires { Right (maps state (arrays tops.old ends.old blocks.old adjustments.old) (arrays other_tops.old other_ends.old other_blocks.old other_adjustments.old)) }
     ensures { Stepped
-        (maps state (given tops ends blocks adjustments) (given other_tops other_ends other_blocks other_adjustments)) command result
-        (left tops ends blocks adjustments) (left other_tops other_ends other_blocks other_adjustments) }
+        (maps state (arrays tops.old ends.old blocks.old adjustments.old) (arrays other_tops.old other_ends.old other_blocks.old other_adjustments.old)) command result
+        (arrays tops.new ends.new blocks.new adjustments.new) (left other_tops.new other_ends.new other_blocks.new other_adjustments.new) }
 {
     let wrong = line_refusal(state, command);
     if wrong != 0 {

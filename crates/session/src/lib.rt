@@ -1,4 +1,6 @@
 // A session of the program: what one command does to its two tables, and what it answers.
+#![tactic(auto)]
+
 pub mod act;
 pub mod state;
 

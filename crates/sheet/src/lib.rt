@@ -1,5 +1,7 @@
 // The rack sheet: document 02, S-4. A line is the two fields of an interval, its first bucket and its last, and the three of its
 // block with a line feed, here called the line's head and its tail.
+#![tactic(auto)]
+
 ghost use Rattle.std.specs.Prelude.{◌≡◌, [], ◌+◌, ◌≤◌, ◌<◌, length, get_or, take, drop};
 ghost use Rattle.std.proofs.lemmas.List.Edits.{sets};
 ghost use Rattle.model.specs.Basics.{before as entry_before};

@@ -1,6 +1,5 @@
 -- What the shell does, as far as its logs tell. Assumes nothing.
 use Rattle.std.specs.Prelude.{ℕ, ◌+◌, ◌^◌, ◌≤◌, ◌<◌, ◌≡◌, true, false, List, [], ◌++◌, length}
-use Rattle.model.specs.Lent.{Lents}
 use Rattle.model.specs.Console.{output}
 use Rattle.console.specs.Rack.{Rack, rack_given, rack_left}
 use Rattle.standing.specs.Standing.{Goes}
@@ -42,12 +41,3 @@ pub record Ran (log₁ log₂ log₁' log₂' : List ℕ) (r : Outcome) : Type 0
   pub text_logged : Logged log₂ 0 text log₂' r.text
   pub told : text ++ missing ≡ output input
   pub ended : Ends r.end input text missing
-
--- the same of lent arrays
-abbrev pub Works : Machine → Lents → Lents → Lents → Lents → Lents → Lents → Lents → Lents → Lents → Lents → ℕ → Done → Type 0
-Works m block t e b a t₂ e₂ b₂ a₂ log n r =
-    Worked m (rack_given m.state t e b a t₂ e₂ b₂ a₂) block.entry.now log.entry.now n r
-    (rack_left r.machine.state t e b a t₂ e₂ b₂ a₂) block.exit.now log.exit.now
-
-abbrev pub Runs : Lents → Lents → Outcome → Type 0
-Runs input text r = Ran input.entry.now text.entry.now input.exit.now text.exit.now r

@@ -1,10 +1,13 @@
 // The program around the machine: it reads, lets the machine work, and writes. Logs, and the places reached in them, are named only
 // to hand them on (tools/logs), so that the program does the same whatever logs it is lent.
+#![tactic(auto)]
+
 ghost use Rattle.std.specs.Prelude.{◌≡◌, false, ◌≤◌, length};
-ghost use Rattle.model.specs.Lent.{arrays_now};
 ghost use Rattle.model.specs.Refusal.{room_short};
+ghost use Rattle.model.specs.Table.{arrays};
+ghost use Rattle.console.specs.Rack.{rack_of};
 ghost use Rattle.buffers.specs.Machine.{ReadyNow};
-ghost use Rattle.shell.specs.Shell.{Works, Runs};
+ghost use Rattle.shell.specs.Shell.{Worked, Ran};
 
 use buffers::{BLOCK, Machine, NUMBERS, OUT, receive, start};
 use machine::turn;
@@ -53,9 +56,10 @@ fn work(
     text_log: &mut [u8],
     mut text: usize,
 ) -> Done
-    requires ready_now { ReadyNow m block tops ends blocks adjustments second_tops second_ends second_blocks second_adjustments }
+    requires ready_now { ReadyNow m block.old tops.old ends.old blocks.old adjustments.old second_tops.old second_ends.old second_blocks.old second_adjustments.old }
     requires text_in_bounds { text ≤ length text_log.old }
-    ensures { Works m block tops ends blocks adjustments second_tops second_ends second_blocks second_adjustments text_log text result }
+    ensures { Worked m (rack_of m.state tops.old ends.old blocks.old adjustments.old second_tops.old second_ends.old second_blocks.old second_adjustments.old) block.old text_log.old text result
+            (rack_of result.machine.state tops.new ends.new blocks.new adjustments.new second_tops.new second_ends.new second_blocks.new second_adjustments.new) block.new text_log.new }
 {
     loop {
         let after = turn(
@@ -109,9 +113,9 @@ fn serve(
     rows: &mut [u32; NUMBERS],
     out: &mut [u8; OUT],
 ) -> Outcome
-    requires adjustments_value { room_short (arrays_now tops ends blocks adjustments) ≡ false }
-    requires second_adjustments_value { room_short (arrays_now second_tops second_ends second_blocks second_adjustments) ≡ false }
-    ensures { Runs input_log text_log result }
+    requires adjustments_value { room_short (arrays tops.old ends.old blocks.old adjustments.old) ≡ false }
+    requires second_adjustments_value { room_short (arrays second_tops.old second_ends.old second_blocks.old second_adjustments.old) ≡ false }
+    ensures { Ran input_log.old text_log.old input_log.new text_log.new result }
 {
     let mut m = start();
     let mut input = 0;
@@ -165,7 +169,7 @@ fn serve(
 // The program, with its two whole tables. What it reads and what it writes is recorded in two logs, as far as they reach, so that
 // its promise can speak of it; the programs lend logs of no length, since they need no record.
 pub fn run(input_log: &mut [u8], text_log: &mut [u8]) -> Outcome
-    ensures { Runs input_log text_log result }
+    ensures { Ran input_log.old text_log.old input_log.new text_log.new result }
 {
     let mut block = [0; BLOCK];
     let mut tops = [0; BLOCKS];

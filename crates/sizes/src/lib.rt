@@ -1,7 +1,8 @@
 // The sizes and the capacity asked for, the room for tables, and the initial table.
+#![tactic(auto)]
+
 ghost use Rattle.std.specs.Prelude.{◌≡◌, false, [], ◌∷◌, ℕ, ◌≤◌};
-ghost use Rattle.model.specs.Lent.{given, left, arrays_now};
-ghost use Rattle.model.specs.Table.{written, sizes};
+ghost use Rattle.model.specs.Table.{written, sizes, arrays};
 ghost use Rattle.model.specs.Refusal.{first, outside, overfills, room_short};
 ghost use Rattle.model.specs.Initial.{initial};
 ghost use Rattle.model.specs.Calls.{size_tests, fresh_tests, room_reply};
@@ -12,7 +13,7 @@ use model::table::Header;
 
 // 21: room for a new table below 65 tops or below 2,081 of any interval array.
 pub fn room_short(tops: &[u32], ends: &[u32], blocks: &[u32], adjustments: &[u32]) -> bool
-    ensures { result ≡ room_short (given tops ends blocks adjustments) }
+    ensures { result ≡ room_short (arrays tops.now ends.now blocks.now adjustments.now) }
 {
     if tops.len() < BLOCKS {
         return true;
@@ -117,8 +118,8 @@ pub fn write_initial(
     blocks: &mut [u32],
     adjustments: &mut [u32],
 )
-    requires { room_short (arrays_now tops ends blocks adjustments) ≡ false }
-    ensures { (capacity : ℕ) → left tops ends blocks adjustments ≡ written (initial (sizes buckets bins) capacity) (given tops ends blocks adjustments) }
+    requires { room_short (arrays tops.old ends.old blocks.old adjustments.old) ≡ false }
+    ensures { (capacity : ℕ) → arrays tops.new ends.new blocks.new adjustments.new ≡ written (initial (sizes buckets bins) capacity) (arrays tops.old ends.old blocks.old adjustments.old) }
 {
     tops[0] = bins;
     ends[0] = buckets;

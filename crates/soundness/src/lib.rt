@@ -1,19 +1,11 @@
 // The check of a lent table: rules 11 to 16 of document 01, and 30. A rule's function says whether the table breaks it.
+#![tactic(auto)]
+
 ghost use Rattle.std.specs.Prelude.{◌≡◌, ℕ, ◌<◌, ◌≤◌, true, false, List, [], ◌∷◌, length, replicate, slice_index};
-ghost use Rattle.model.specs.Lent.{TopsFormed, given};
+ghost use Rattle.model.specs.Lent.{TopsFormed};
 ghost use Rattle.model.specs.Limits.{max_blocks};
 ghost use Rattle.model.specs.Table.{arrays};
-ghost use Rattle.model.specs.Refusal.{
-  rises,
-  header_outside,
-  arrays_short,
-  tops_wrong,
-  ends_wrong,
-  blocks_wrong,
-  holdings_wrong,
-  capacity_wrong,
-  first,
-};
+ghost use Rattle.model.specs.Refusal.{rises, header_outside, arrays_short, tops_wrong, ends_wrong, blocks_wrong, holdings_wrong, capacity_wrong, first};
 ghost use Rattle.model.specs.Sound.{Formed};
 ghost use Rattle.model.specs.Calls.{table_tests};
 ghost use Rattle.soundness.specs.Passed.{Counted, layout_tests, rule_tests, alone, TopsRight, IntervalsRight, Held, Walked, Walks, Meets};
@@ -45,7 +37,7 @@ pub fn arrays_short(
     blocks: &[u32],
     adjustments: &[u32],
 ) -> bool
-    ensures { result ≡ arrays_short h (given tops ends blocks adjustments) }
+    ensures { result ≡ arrays_short h (arrays tops.now ends.now blocks.now adjustments.now) }
 {
     let intervals = h.interval_count as usize;
     if tops.len() < h.block_count as usize {
@@ -262,7 +254,7 @@ fn adjustment_refusal(h: Header, tops: &[u32], ends: &[u32], blocks: &[u32]) -> 
 // The number of the first of rules 12 to 16 that the table breaks, or 0.
 fn judged(h: Header, tops: &[u32], ends: &[u32], blocks: &[u32], adjustments: &[u32]) -> u32
     requires { (Counted h tops.now ends.now blocks.now) × (h.interval_count ≤ length adjustments.now) }
-    ensures { result ≡ first (rule_tests h (given tops ends blocks adjustments)) }
+    ensures { result ≡ first (rule_tests h (arrays tops.now ends.now blocks.now adjustments.now)) }
 {
     let broken = layout_refusal(h, tops, ends, blocks);
     if broken != 0 {
@@ -288,7 +280,7 @@ pub fn judged_alone(
     adjustments: &[u32],
 ) -> u32
     requires { (Counted (alone buckets capacity) tops.now ends.now blocks.now) × (1 ≤ length adjustments.now) }
-    ensures { result ≡ first (rule_tests (alone buckets capacity) (given tops ends blocks adjustments)) }
+    ensures { result ≡ first (rule_tests (alone buckets capacity) (arrays tops.now ends.now blocks.now adjustments.now)) }
 {
     let h = Header {
         buckets,
@@ -313,7 +305,7 @@ pub fn judged_alone(
 // The same of any table.
 fn rule_refusal(h: Header, tops: &[u32], ends: &[u32], blocks: &[u32], adjustments: &[u32]) -> u32
     requires { (Counted h tops.now ends.now blocks.now) × (h.interval_count ≤ length adjustments.now) }
-    ensures { result ≡ first (rule_tests h (given tops ends blocks adjustments)) }
+    ensures { result ≡ first (rule_tests h (arrays tops.now ends.now blocks.now adjustments.now)) }
 {
     if h.block_count == 1 {
         if h.interval_count == 1 {
@@ -337,7 +329,7 @@ pub fn capacity_wrong(h: Header, tops: &[u32]) -> bool
 
 // The number of the first of rules 11 to 16 and 30 that the table breaks, or 0.
 pub fn check(h: Header, tops: &[u32], ends: &[u32], blocks: &[u32], adjustments: &[u32]) -> u32
-    ensures { result ≡ first (table_tests h (given tops ends blocks adjustments)) }
+    ensures { result ≡ first (table_tests h (arrays tops.now ends.now blocks.now adjustments.now)) }
 {
     if header_outside(h) {
         return 11;

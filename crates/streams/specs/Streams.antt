@@ -1,7 +1,6 @@
 -- What a read and a write do, as far as memory tells: no contract says which bytes C reads or writes. Assumes nothing.
 use Rattle.std.specs.Prelude.{ℕ, ◌+◌, ◌≤◌, ◌<◌, min, ◌≡◌, true, List, length, take, drop}
 use Rattle.std.proofs.lemmas.List.Edits.{sets}
-use Rattle.model.specs.Lent.{Lents}
 use Rattle.streams.specs.declared.Input.{Input}
 use Rattle.streams.specs.declared.Output.{Output}
 
@@ -21,10 +20,3 @@ pub record Read (block : List ℕ) (size : ℕ) (log : List ℕ) (n : ℕ) (r : 
 pub record Written (out : List ℕ) (k : ℕ) (log : List ℕ) (n : ℕ) (r : Output) (log' : List ℕ) : Type 0 where
   pub logged : Logged log n (take k out) log' r.place
   pub tried : r.failed ≡ true → 0 < k
-
--- the same of lent arrays
-abbrev pub Reads : Lents → ℕ → Lents → ℕ → Input → Type 0
-Reads block size log n r = Read block.entry.now size log.entry.now n r block.exit.now log.exit.now
-
-abbrev pub Writes : Lents → ℕ → Lents → ℕ → Output → Type 0
-Writes out k log n r = Written out.entry.now k log.entry.now n r log.exit.now

@@ -1,7 +1,9 @@
 // Standard input and output. What is read and what is to be written is recorded in logs that the caller lends, as far as they reach,
 // so that contracts can speak of it.
+#![tactic(auto)]
+
 ghost use Rattle.std.specs.Prelude.{◌≤◌, ◌<◌, length};
-ghost use Rattle.streams.specs.Streams.{Logged, Reads, Writes};
+ghost use Rattle.streams.specs.Streams.{Logged, Read, Written};
 
 // A read: how many bytes it brought, 0 where the input has ended or cannot be read; and the place reached in the log.
 #[derive(Drop)]
@@ -21,7 +23,7 @@ pub struct Output {
 pub fn read(block: &mut [u8], size: usize, log: &mut [u8], at: usize) -> Input
     requires size_in_bounds { size < length block.old }
     requires at_in_bounds { at ≤ length log.old }
-    ensures { Reads block size log at result }
+    ensures { Read block.old size log.old at result block.new log.new }
 {
     let rest = &mut block[size..];
     let answer = libc::read(0, rest);
@@ -35,7 +37,7 @@ pub fn read(block: &mut [u8], size: usize, log: &mut [u8], at: usize) -> Input
 pub fn write(out: &[u8], n: usize, log: &mut [u8], at: usize) -> Output
     requires n_in_bounds { n ≤ length out.now }
     requires at_in_bounds { at ≤ length log.old }
-    ensures { Writes out n log at result }
+    ensures { Written out.now n log.old at result log.new }
 {
     let text = &out[..n];
     let place = record(log, at, text);

@@ -1,5 +1,7 @@
 // What every layer reads of a table: the entry before a place, the number of bins, what bins are due, and how the buckets of an
 // interval are placed; and the copying of an array.
+#![tactic(auto)]
+
 ghost use Rattle.std.specs.Prelude.{ℕ, ◌+◌, ◌*◌, ◌^◌, min, ◌≤◌, ◌<◌, List, ◌≡◌, length, get_or, take};
 ghost use Rattle.model.specs.Lent.{TopsFormed, lent};
 ghost use Rattle.model.specs.Basics.{before as entry_before};

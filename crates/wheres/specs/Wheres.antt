@@ -1,7 +1,6 @@
 -- How a machine goes on in the bytes that are read, and over `where` lines. Assumes nothing.
 use Rattle.std.specs.Prelude.{ℕ, ◌≤◌, ◌≡◌, false, List, length, take}
 use Rattle.model.specs.Table.{Table, Arrays}
-use Rattle.model.specs.Lent.{Lents, table_given}
 use Rattle.model.specs.declared.table.Header.{Header}
 use Rattle.session.specs.Maps.{is_empty, map_of}
 use Rattle.console.specs.Rack.{Rack, rack, held, rack_given}
@@ -40,14 +39,3 @@ pub record Places (t : Table) (bytes : List ℕ) (from put : ℕ) (out : List �
   pub went
       : (m : Machine) (one two : Arrays) → m.from ≡ from → Shows m (rack m.state one two) t
       → Went m (rack m.state one two) bytes put out (on_to m r.from) (rack m.state one two) r.put out'
-
--- the same of lent arrays
-abbrev pub AnswersPlaces : Header → Lents → Lents → Lents → Lents → Lents → ℕ → ℕ → Lents → Spot → Type 0
-AnswersPlaces h t e b a block from put out r =
-    Places (table_given h t e b a) block.entry.now from put out.entry.now r out.exit.now
-
-abbrev pub AnswersWheres
-    : Machine → Lents → Lents → Lents → Lents → Lents → Lents → Lents → Lents → Lents → ℕ → Lents → Spot → Type 0
-AnswersWheres m block t e b a t₂ e₂ b₂ a₂ put out r =
-    Went m (rack_given m.state t e b a t₂ e₂ b₂ a₂) block.entry.now put out.entry.now (on_to m r.from)
-    (rack_given m.state t e b a t₂ e₂ b₂ a₂) r.put out.exit.now

@@ -1,8 +1,11 @@
 // The `where` lines of a block that stand one behind the other: they change no table, so they are answered without the session's state.
+#![tactic(auto)]
+
 ghost use Rattle.std.specs.Prelude.{◌≡◌, false, ◌≤◌, length};
-ghost use Rattle.model.specs.Lent.{LentFormed};
+ghost use Rattle.model.specs.Lent.{LentFormed, lent};
+ghost use Rattle.console.specs.Rack.{rack_of};
 ghost use Rattle.buffers.specs.Machine.{SaneNow};
-ghost use Rattle.wheres.specs.Wheres.{AnswersPlaces, AnswersWheres};
+ghost use Rattle.wheres.specs.Wheres.{Places, Went};
 
 use buffers::{LAST, Machine, OUT};
 use console::step::put_where;
@@ -30,8 +33,8 @@ fn answer_places(
     put: usize,
     out: &mut [u8; OUT],
 ) -> Spot
-    requires { LentFormed h tops ends blocks adjustments × (from ≤ length block.now) × (put ≤ length out.old) }
-    ensures { AnswersPlaces h tops ends blocks adjustments block from put out result }
+    requires { LentFormed h tops.now ends.now blocks.now adjustments.now × (from ≤ length block.now) × (put ≤ length out.old) }
+    ensures { Places (lent h tops.now ends.now blocks.now adjustments.now) block.now from put out.old result out.new }
 {
     let mut line = from;
     let mut at = put;
@@ -65,8 +68,9 @@ pub fn answer_wheres(
     out: &mut [u8; OUT],
 ) -> Spot
     requires listing_value { (m.listing ≡ false) × (m.from ≤ length block.now) × (put ≤ length out.old) }
-    requires sane_now { SaneNow m tops ends blocks adjustments second_tops second_ends second_blocks second_adjustments }
-    ensures { AnswersWheres m block tops ends blocks adjustments second_tops second_ends second_blocks second_adjustments put out result }
+    requires sane_now { SaneNow m tops.now ends.now blocks.now adjustments.now second_tops.now second_ends.now second_blocks.now second_adjustments.now }
+    ensures { Went m (rack_of m.state tops.now ends.now blocks.now adjustments.now second_tops.now second_ends.now second_blocks.now second_adjustments.now) block.now put out.old (on_to m result.from)
+            (rack_of m.state tops.now ends.now blocks.now adjustments.now second_tops.now second_ends.now second_blocks.now second_adjustments.now) result.put out.new }
 {
     let from = m.from;
     if block.len() <= from {

@@ -1,4 +1,6 @@
 // One bit a bucket, 1 for written: which buckets are, and how many of a span, counted sixty-four at a time.
+#![tactic(auto)]
+
 ghost use Rattle.std.specs.Prelude.{◌+◌, ◌*◌, ◌/◌, ◌≤◌, ◌<◌, ◌≡◌, length};
 ghost use Rattle.model.specs.Basics.{count};
 ghost use Rattle.written.specs.Written.{written, bits_short};

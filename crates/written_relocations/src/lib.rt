@@ -1,6 +1,8 @@
 // How many of the buckets that a growth moves are written.
+#![tactic(auto)]
+
 ghost use Rattle.std.specs.Prelude.{ℕ, ◌*◌, ◌≤◌, List, ◌≡◌, length};
-ghost use Rattle.model.specs.Lent.{LentFormed, given, lent, table_given, table_now};
+ghost use Rattle.model.specs.Lent.{LentFormed, lent};
 ghost use Rattle.model.specs.Table.{Shape, arrays, sizes};
 ghost use Rattle.model.specs.Refusal.{first};
 ghost use Rattle.model.specs.Expansion.{expanded};
@@ -56,11 +58,11 @@ fn written_moved(
     bins: u32,
     bits: &[u64],
 ) -> u32
-    requires lent_formed { LentFormed h tops ends blocks adjustments }
-    requires bins_value { first (growth_tests (table_now h tops ends blocks adjustments) (sizes buckets bins)) ≡ 0 }
+    requires lent_formed { LentFormed h tops.now ends.now blocks.now adjustments.now }
+    requires bins_value { first (growth_tests (lent h tops.now ends.now blocks.now adjustments.now) (sizes buckets bins)) ≡ 0 }
     requires buckets_bound { h.buckets ≤ 64 * length bits.now }
-    ensures { result ≡ written_moved (table_given h tops ends blocks adjustments)
-        (expanded (table_given h tops ends blocks adjustments) (sizes buckets bins)) bits.now }
+    ensures { result ≡ written_moved (lent h tops.now ends.now blocks.now adjustments.now)
+        (expanded (lent h tops.now ends.now blocks.now adjustments.now) (sizes buckets bins)) bits.now }
 {
     if !some_fall(h, tops, buckets, bins) {
         return 0;
@@ -88,7 +90,7 @@ pub fn written_relocations(
     bins: u32,
     bits: &[u64],
 ) -> WrittenReply
-    ensures { result ≡ written_reply header (given tops ends blocks adjustments) (sizes buckets bins) bits.now }
+    ensures { result ≡ written_reply header (arrays tops.now ends.now blocks.now adjustments.now) (sizes buckets bins) bits.now }
 {
     let wrong = soundness::check(header, tops, ends, blocks, adjustments);
     if wrong != 0 {
