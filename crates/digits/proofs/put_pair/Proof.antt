@@ -12,37 +12,37 @@ use Rattle.digits.proofs.put_pair.Tie as tie
 tenth : (p : ℕ) → p < 100 → p * 103 / 1024 ≡ p / 10
 tenth p l = omega arith
 
-mul-tens : tie.Need-overflow-mul-tens
+mul-tens : tie.Need-overflow_mul-tens
 mul-tens c = search rules
 
-mul-ones : tie.Need-overflow-mul-ones
+mul-ones : tie.Need-overflow_mul-ones
 mul-ones c = search rules
 
-sub-ones : tie.Need-overflow-sub-ones
+sub-ones : tie.Need-overflow_sub-ones
 sub-ones c = search rules
 
-add-out : tie.Need-overflow-add-out
+add-out : tie.Need-overflow_add-out
 add-out c = search rules
 
-cast-out : tie.Need-overflow-cast-out
+cast-out : tie.Need-overflow_cast-out
 cast-out c = search rules
 
-slice-write-out : tie.Need-slice-write-out
+slice-write-out : tie.Need-bounds-out-at
 slice-write-out c = search rules
 
-add-out-2 : tie.Need-overflow-add-out-2
+add-out-2 : tie.Need-overflow_add-out-2
 add-out-2 c = search rules
 
-cast-out-2 : tie.Need-overflow-cast-out-2
+cast-out-2 : tie.Need-overflow_cast-out-2
 cast-out-2 c = search rules
 
-add-out-3 : tie.Need-overflow-add-out-3
+add-out-3 : tie.Need-overflow_add-out-3
 add-out-3 c = search rules
 
-slice-write-out-2 : tie.Need-slice-write-out-2
+slice-write-out-2 : tie.Need-bounds-out-at-2
 slice-write-out-2 c = simp length-set (omega arith)
 
-same_length : tie.Need-same-length
+same_length : tie.Need-shape_of-out
 same_length c = search rules
 
 returns : tie.Need-returns

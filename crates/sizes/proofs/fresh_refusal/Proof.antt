@@ -10,25 +10,29 @@ use Rattle.model.proofs.Soundness.{allowed}
 use Rattle.sizes.proofs.fresh_refusal.Statement.{statement}
 use Rattle.sizes.proofs.fresh_refusal.Tie as tie
 
-size-refusal-requires : tie.Need-size-refusal-requires
+size-refusal-requires : tie.Need-size_refusal-wrong-requires
 size-refusal-requires c κs = search rules
 
-returns : tie.Need-returns
+returns : tie.Need-returns-then-wrong-ne0
 unfolding fresh_tests
 returns c =
-    let sized = c.before.size-refusal.ensures in
-    sized ∙ sym (first_found _ _ (λ e. c.if1.true (sized ∙ e)))
+    let sized = c.before.size_refusal-wrong.ensures in
+    sized ∙ sym (first_found _ _ (λ e. c.if-wrong-ne0.true (sized ∙ e)))
 
 -- rules 1 and 2 are passed
-passed : (c : tie.Else1) → let a = c.before.before.args in first (size_tests (sizes a.buckets a.bins)) ≡ 0
-passed c = sym c.before.size-refusal.ensures ∙ c.if1.false
+passed : (c : tie.Else-wrong-ne0) → let a = c.before.before.args in first (size_tests (sizes a.buckets a.bins)) ≡ 0
+passed c = sym c.before.size_refusal-wrong.ensures ∙ c.if-wrong-ne0.false
 
-overfull-refusal-requires : tie.Need-overfull-refusal-requires
+overfull-refusal-requires : tie.Need-overfull_refusal-requires
 overfull-refusal-requires c κs = (allowed _ (passed c)).some_bins
 
-returns-2 : tie.Need-returns-2
+returns-2 : tie.Need-returns
 unfolding fresh_tests size_tests
-returns-2 c = c.overfull-refusal.ensures ∙ sym (first_after _ _ (omega arith) (passed c.before))
+returns-2 c = c.overfull_refusal.ensures ∙ sym (first_after _ _ (omega arith) (passed c.before))
 
 pub fresh_refusal_spec : {M : Type 1} → statement M
-fresh_refusal_spec = tie.close (tie.spec size-refusal-requires returns overfull-refusal-requires returns-2)
+fresh_refusal_spec = tie.close (tie.spec
+    size-refusal-requires
+    returns
+    overfull-refusal-requires
+    returns-2)

@@ -10,11 +10,14 @@ use Rattle.sizes.proofs.overfull_refusal.Tie as tie
 overfull-requires : tie.Need-overfull-requires
 overfull-requires c κs = search rules
 
-returns : tie.Need-returns
-returns c = omega (arith, first_here (31, _) [] (sym c.before.overfull.ensures ∙ c.if1.true))
+returns : tie.Need-returns-then-overfull
+returns c = omega (arith, first_here (31, _) [] (sym c.before.overfull.ensures ∙ c.if-overfull.true))
 
-returns-2 : tie.Need-returns-2
-returns-2 c = sym (first_skip _ _ (sym c.before.overfull.ensures ∙ c.if1.false) ∙ first_none)
+returns-2 : tie.Need-returns
+returns-2 c = sym (first_skip _ _ (sym c.before.overfull.ensures ∙ c.if-overfull.false) ∙ first_none)
 
 pub overfull_refusal_spec : {M : Type 1} → statement M
-overfull_refusal_spec = tie.close (tie.spec overfull-requires returns returns-2)
+overfull_refusal_spec = tie.close (tie.spec
+    overfull-requires
+    returns
+    returns-2)

@@ -28,21 +28,26 @@ accepted : (m v : ℕ) → m ≤ 64 → v ≡ room m → record { refusal = 0; i
 unfolding room_reply room_refusal answer first if◌then◌else◌
 accepted m v l e = rw (le-ltb 64 m l, e)
 
-returns : tie.Need-returns
+returns : tie.Need-returns-then-expansions-gt-MAX_EXPANSIONS
 returns c = refused _ _ (omega arith) refl
 
-add-t3 : tie.Need-overflow-add-t3
+add-t3 : tie.Need-overflow_add-result
 add-t3 c = search rules
 
-mul-t4 : tie.Need-overflow-mul-t4
+mul-t4 : tie.Need-overflow_mul-result
 mul-t4 c = record { fits = product (omega arith) (omega arith) }
 
-add-t6 : tie.Need-overflow-add-t6
+add-t6 : tie.Need-overflow_add-result-2
 add-t6 c = record { fits = half (product (omega arith) (omega arith)) (omega arith) }
 
-returns-2 : tie.Need-returns-2
+returns-2 : tie.Need-returns
 unfolding room
 returns-2 c = accepted _ _ (omega arith) refl
 
 pub room_spec : {M : Type 1} → statement M
-room_spec = tie.close (tie.spec returns add-t3 mul-t4 add-t6 returns-2)
+room_spec = tie.close (tie.spec
+    returns
+    add-t3
+    mul-t4
+    add-t6
+    returns-2)

@@ -5,21 +5,25 @@ use Rattle.model.specs.Refusal.{room_short}
 use Rattle.sizes.proofs.room_short.Statement.{statement}
 use Rattle.sizes.proofs.room_short.Tie as tie
 
-returns : tie.Need-returns
+returns : tie.Need-returns-then-tops-lt-BLOCKS
 unfolding room_short ◌or◌
-returns c = rw (lt-ltb _ _ c.if1.true)
+returns c = rw (lt-ltb _ _ c.if-tops-lt-BLOCKS.true)
 
-returns-2 : tie.Need-returns-2
+returns-2 : tie.Need-returns-then-ends-lt-INTERVALS
 unfolding room_short ◌or◌
-returns-2 c = rw (le-ltb _ _ c.before.if1.false, lt-ltb _ _ c.if2.true)
+returns-2 c = rw (le-ltb _ _ c.before.if-tops-lt-BLOCKS.false, lt-ltb _ _ c.if-ends-lt-INTERVALS.true)
 
-returns-3 : tie.Need-returns-3
+returns-3 : tie.Need-returns-then-blocks-lt-INTERVALS
 unfolding room_short ◌or◌
-returns-3 c = rw (le-ltb _ _ c.before.before.if1.false, le-ltb _ _ c.before.if2.false, lt-ltb _ _ c.if3.true)
+returns-3 c = rw (le-ltb _ _ c.before.before.if-tops-lt-BLOCKS.false, le-ltb _ _ c.before.if-ends-lt-INTERVALS.false, lt-ltb _ _ c.if-blocks-lt-INTERVALS.true)
 
-returns-4 : tie.Need-returns-4
+returns-4 : tie.Need-returns
 unfolding room_short ◌or◌
-returns-4 c = rw (le-ltb _ _ c.before.before.if1.false, le-ltb _ _ c.before.if2.false, le-ltb _ _ c.if3.false)
+returns-4 c = rw (le-ltb _ _ c.before.before.if-tops-lt-BLOCKS.false, le-ltb _ _ c.before.if-ends-lt-INTERVALS.false, le-ltb _ _ c.if-blocks-lt-INTERVALS.false)
 
 pub room_short_spec : {M : Type 1} → statement M
-room_short_spec = tie.close (tie.spec returns returns-2 returns-3 returns-4)
+room_short_spec = tie.close (tie.spec
+    returns
+    returns-2
+    returns-3
+    returns-4)

@@ -5,28 +5,28 @@ use borrow.Author.Rules.{rules}
 use Rattle.sizes.proofs.write_initial.Statement.{statement}
 use Rattle.sizes.proofs.write_initial.Tie as tie
 
-slice-write-tops : tie.Need-slice-write-tops
+slice-write-tops : tie.Need-bounds-tops-0
 slice-write-tops c = let room = roomy _ c.requires in omega arith
 
-slice-write-ends : tie.Need-slice-write-ends
+slice-write-ends : tie.Need-bounds-ends-0
 slice-write-ends c = let room = roomy _ c.requires in omega arith
 
-slice-write-blocks : tie.Need-slice-write-blocks
+slice-write-blocks : tie.Need-bounds-blocks-0
 slice-write-blocks c = let room = roomy _ c.requires in omega arith
 
-slice-write-adjustments : tie.Need-slice-write-adjustments
+slice-write-adjustments : tie.Need-bounds-adjustments-0
 slice-write-adjustments c = let room = roomy _ c.requires in omega arith
 
-same_length : tie.Need-same-length
+same_length : tie.Need-shape_of-tops
 same_length c = search rules
 
-same-length-2 : tie.Need-same-length-2
+same-length-2 : tie.Need-shape_of-ends
 same-length-2 c = search rules
 
-same-length-3 : tie.Need-same-length-3
+same-length-3 : tie.Need-shape_of-blocks
 same-length-3 c = search rules
 
-same-length-4 : tie.Need-same-length-4
+same-length-4 : tie.Need-shape_of-adjustments
 same-length-4 c = search rules
 
 returns : tie.Need-returns

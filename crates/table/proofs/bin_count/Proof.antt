@@ -6,7 +6,7 @@ use borrow.Author.Rules.{rules}
 use Rattle.table.proofs.bin_count.Statement.{statement}
 use Rattle.table.proofs.bin_count.Tie as tie
 
-cast-before : tie.Need-overflow-cast-before
+cast-before : tie.Need-overflow_cast-h
 cast-before c = search rules
 
 before-requires : tie.Need-before-requires
@@ -15,7 +15,10 @@ before-requires c κs = c.before.before.requires.formed.tops_long
 returns : tie.Need-returns
 returns c ends blocks adjustments =
     let start = c.before.before.before in
-    c.before2.ensures ∙ sym (bins_table start.args.h (arrays _ ends blocks adjustments) start.requires.formed.tops_long)
+    c.before-2.ensures ∙ sym (bins_table start.args.h (arrays _ ends blocks adjustments) start.requires.formed.tops_long)
 
 pub bin_count_spec : {M : Type 1} → statement M
-bin_count_spec = tie.close (tie.spec cast-before before-requires returns)
+bin_count_spec = tie.close (tie.spec
+    cast-before
+    before-requires
+    returns)
