@@ -27,7 +27,7 @@ pub const OUT: usize = LAST + LINE;
 
 // The session's state; whether a move list is in progress, and its next row; and the bytes of the block that are read and not yet
 // answered: from place `from` to place `size`.
-#[derive(Drop)]
+#[derive(Clone, Copy)]
 pub struct Machine {
     pub state: State,
     pub listing: bool,

@@ -8,7 +8,7 @@ use session::state::State;
 
 // After a line: the state, the place behind what was printed, and whether the `move` lines of the latest growth are to be
 // listed.
-#[derive(Drop)]
+#[derive(Clone, Copy)]
 pub struct Reply {
     pub state: State,
     pub at: usize,
@@ -16,7 +16,7 @@ pub struct Reply {
 }
 
 // A page of the move list: its rows, those of the whole list, and the length of the page's text.
-#[derive(Drop)]
+#[derive(Clone, Copy)]
 pub struct Page {
     pub rows: u32,
     pub total: u32,

@@ -12,7 +12,7 @@ use model::table::Header;
 const MOST: u32 = 80;
 
 // The header and bins of a history's map, and its random number.
-#[derive(Drop)]
+#[derive(Clone, Copy)]
 struct Map {
     header: Header,
     bins: u32,

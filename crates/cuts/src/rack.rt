@@ -15,7 +15,7 @@ pub fn set(t: &mut Table, row: usize, i: u32, x: u32) {
 }
 
 // The old table's header and the sizes asked for; how many buckets move, and how many words the new bins have.
-#[derive(Drop)]
+#[derive(Clone, Copy)]
 pub struct Growth {
     pub header: Header,
     pub buckets: u32,

@@ -15,7 +15,7 @@ use model::table::Header;
 const MOST: u32 = 80;
 
 // The header and bins of a history's map, and its random number.
-#[derive(Drop)]
+#[derive(Clone, Copy)]
 struct Map {
     header: Header,
     bins: u32,
@@ -23,7 +23,7 @@ struct Map {
 }
 
 // How many choices its random growths have, how many growths it asks for, and whether their calls are given bits, of every pattern.
-#[derive(Drop)]
+#[derive(Clone, Copy)]
 pub struct Plan {
     pub choices: u32,
     pub growths: u32,

@@ -17,7 +17,7 @@ pub fn set(t: &mut Table, row: usize, i: u32, x: u32) {
 
 // The old table's header and the sizes asked for; how many buckets move, how many words the new bins have, and how many the bits of
 // the old buckets: NONE where the mover is given no bits.
-#[derive(Drop)]
+#[derive(Clone, Copy)]
 pub struct Growth {
     pub header: Header,
     pub buckets: u32,
@@ -29,7 +29,7 @@ pub struct Growth {
 
 // How many words a call is lent, how many of bits, or NONE for a call without bits, and its mark. The junk behind the bits is by its
 // number.
-#[derive(Drop)]
+#[derive(Clone, Copy)]
 pub struct Call {
     pub words: u32,
     pub bits: u32,

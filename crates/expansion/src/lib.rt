@@ -14,7 +14,7 @@ use model::table::Header;
 use sizes::refused_table;
 
 // What each block has, and what it is due after a growth: one array behind the other, so that they are cleared at once.
-#[derive(Drop)]
+#[derive(Clone, Copy)]
 struct Shares {
     olds: [u32; BLOCKS],
     dues: [u32; BLOCKS],

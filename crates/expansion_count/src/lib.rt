@@ -16,7 +16,7 @@ use model::plan::{Action, Plan};
 use model::table::Header;
 
 // What a growth answers: the intervals of its table, and the buckets that it moves.
-#[derive(Drop)]
+#[derive(Clone, Copy)]
 pub struct Growth {
     pub intervals: u32,
     pub moved: u32,

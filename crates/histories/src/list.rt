@@ -12,7 +12,7 @@ type Buckets = [u32; 65536];
 
 // A list that does not fall: so many buckets, from `first` on, each by `step` or up to `gap` more above the one before it, but
 // none above `last`.
-#[derive(Drop)]
+#[derive(Clone, Copy)]
 struct Rise {
     count: u32,
     first: u32,

@@ -2,7 +2,7 @@
 use crate::total::{plus, remainder};
 use model::table::Header;
 
-#[derive(Drop)]
+#[derive(Clone, Copy)]
 pub struct State {
     pub histories: u32,
     pub accepted: u32,

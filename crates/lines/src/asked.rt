@@ -5,7 +5,7 @@ ghost use Rattle.model.specs.Console.{text as text_of, same};
 ghost use Rattle.lines.specs.Words.{is_digit, bytes_at, DigitsTo, NoDigits, AsksFor, AsksForNone, by_asked};
 
 // The bucket that a line asks for, and the place of the line feed behind it; or any other line.
-#[derive(Drop)]
+#[derive(Clone, Copy)]
 pub enum Asked {
     Bucket { bucket: u32, end: usize },
     Other,

@@ -10,7 +10,7 @@ ghost use Rattle.lines.specs.Words.{up_to_feed, word_at, number_at, with_two};
 use model::command::Command;
 
 // The number at a place of a line, and the place of the blank behind it, or the line's length; or no number.
-#[derive(Drop)]
+#[derive(Clone, Copy)]
 enum Parsed {
     Number { value: u32, end: usize },
     Other,

@@ -19,7 +19,7 @@ use model::table::Header;
 use table::{before, bin_count, placing_of, slot_of};
 
 // Intervals of a table: `count` of them from place `low` on.
-#[derive(Drop)]
+#[derive(Clone, Copy)]
 struct Span {
     low: usize,
     count: usize,

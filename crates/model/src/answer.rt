@@ -1,5 +1,5 @@
 // What a line of the program is answered with. The names are the printed words, but for `ok`, which tells of a table.
-#[derive(Drop)]
+#[derive(Clone, Copy)]
 pub enum Answer {
     Refused { number: u32 },
     Table { moved: u32, intervals: u32 },

@@ -1,5 +1,5 @@
 // What a line of the program says. The names are the line's words.
-#[derive(Drop)]
+#[derive(Clone, Copy)]
 pub enum Command {
     Fresh { buckets: u32, bins: u32 },
     Grow { buckets: u32, bins: u32 },

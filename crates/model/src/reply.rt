@@ -3,7 +3,7 @@ use crate::table::Header;
 
 // initial and expand: the buckets moved, and the header of the table written
 #[repr(C)]
-#[derive(Drop)]
+#[derive(Clone, Copy)]
 pub struct TableReply {
     pub refusal: u32,
     pub moved: u32,
@@ -12,7 +12,7 @@ pub struct TableReply {
 
 // relocations: the rows written, and how many there are in all
 #[repr(C)]
-#[derive(Drop)]
+#[derive(Clone, Copy)]
 pub struct RelocationsReply {
     pub refusal: u32,
     pub written: u32,
@@ -20,7 +20,7 @@ pub struct RelocationsReply {
 }
 
 #[repr(C)]
-#[derive(Drop)]
+#[derive(Clone, Copy)]
 pub struct PlaceReply {
     pub refusal: u32,
     pub bin: u32,
@@ -29,13 +29,13 @@ pub struct PlaceReply {
 
 // places: the places themselves are in the lent result
 #[repr(C)]
-#[derive(Drop)]
+#[derive(Clone, Copy)]
 pub struct PlacesReply {
     pub refusal: u32,
 }
 
 #[repr(C)]
-#[derive(Drop)]
+#[derive(Clone, Copy)]
 pub struct FindReply {
     pub refusal: u32,
     pub bucket: u32,
@@ -43,14 +43,14 @@ pub struct FindReply {
 
 // bin_size: the buckets in the bin
 #[repr(C)]
-#[derive(Drop)]
+#[derive(Clone, Copy)]
 pub struct BinSizeReply {
     pub refusal: u32,
     pub buckets: u32,
 }
 
 #[repr(C)]
-#[derive(Drop)]
+#[derive(Clone, Copy)]
 pub struct RoomReply {
     pub refusal: u32,
     pub intervals: u32,
@@ -58,14 +58,14 @@ pub struct RoomReply {
 
 // save: the bytes written
 #[repr(C)]
-#[derive(Drop)]
+#[derive(Clone, Copy)]
 pub struct SaveReply {
     pub refusal: u32,
     pub length: u32,
 }
 
 #[repr(C)]
-#[derive(Drop)]
+#[derive(Clone, Copy)]
 pub struct LoadReply {
     pub refusal: u32,
     pub header: Header,
@@ -73,7 +73,7 @@ pub struct LoadReply {
 
 // sheet: the bytes written
 #[repr(C)]
-#[derive(Drop)]
+#[derive(Clone, Copy)]
 pub struct SheetReply {
     pub refusal: u32,
     pub length: u32,
@@ -81,7 +81,7 @@ pub struct SheetReply {
 
 // carry and carry_written: the mark to store, and 1 where it had reached the total, so that no row was done
 #[repr(C)]
-#[derive(Drop)]
+#[derive(Clone, Copy)]
 pub struct CarryReply {
     pub refusal: u32,
     pub mark: u32,
@@ -90,7 +90,7 @@ pub struct CarryReply {
 
 // written_relocations: how many of the moved buckets are written
 #[repr(C)]
-#[derive(Drop)]
+#[derive(Clone, Copy)]
 pub struct WrittenReply {
     pub refusal: u32,
     pub count: u32,

@@ -1,7 +1,7 @@
 // What travels with a table's four arrays: B, the capacity P of every bin (drawer), the number of blocks (groups) G and of
 // intervals (runs) k.
 #[repr(C)]
-#[derive(Drop)]
+#[derive(Clone, Copy)]
 pub struct Header {
     pub buckets: u32,
     pub capacity: u32,

@@ -20,7 +20,7 @@ use row_places::{RowPlaces, row_places};
 use written::{bits_short, is_written};
 
 // A call's reply, and whether there is a row to do.
-#[derive(Drop)]
+#[derive(Clone, Copy)]
 pub struct Step {
     reply: CarryReply,
     some: bool,

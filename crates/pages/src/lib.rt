@@ -10,7 +10,7 @@ use console::list::list;
 use model::limits::{BLOCKS, INTERVALS};
 
 // After a turn: the machine, how many bytes it put into the buffer, and whether there is more to do.
-#[derive(Drop)]
+#[derive(Clone, Copy)]
 pub struct After {
     pub machine: Machine,
     pub put: usize,

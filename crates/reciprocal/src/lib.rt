@@ -5,7 +5,7 @@ ghost use Rattle.std.specs.Prelude.{ℕ, ◌/◌, ◌^◌, ◌<◌, ◌≤◌, �
 ghost use Rattle.reciprocal.specs.Divides.{Divides};
 
 // A number below 2^30 times the factor, shifted by so many bits, is its quotient.
-#[derive(Drop)]
+#[derive(Clone, Copy)]
 pub struct Reciprocal {
     pub factor: u64,
     pub bits: u32,

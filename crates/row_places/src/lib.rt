@@ -17,14 +17,14 @@ use table::{Placing, Slot, bin_count, placing_of, slot_of};
 const FEW: usize = 8;
 
 // A bucket, and the interval that has it.
-#[derive(Drop)]
+#[derive(Clone, Copy)]
 struct Moved {
     interval: usize,
     bucket: u32,
 }
 
 // The old place of a row, and its new one.
-#[derive(Drop)]
+#[derive(Clone, Copy)]
 pub struct RowPlaces {
     pub old: Slot,
     pub new: Slot,

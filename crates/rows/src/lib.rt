@@ -12,7 +12,7 @@ use table::{Placing, Slot, slot_of};
 
 // A block's turn through its bins: the place of its next bucket as a pair, the bin in the low 32 bits and the position in the
 // high ones, and how many bins are left from that bin on.
-#[derive(Drop)]
+#[derive(Clone, Copy)]
 pub struct Turn {
     pub place: u64,
     pub left: u32,

@@ -3,7 +3,7 @@ use model::answer::Answer;
 use model::table::Header;
 
 // No map; a fresh map; a map and the one before its latest growth.
-#[derive(Drop)]
+#[derive(Clone, Copy)]
 pub enum Stage {
     Empty,
     Fresh,
@@ -12,7 +12,7 @@ pub enum Stage {
 
 // The stage, whether the map is in the second of the two tables, the number of the map's bins, and the headers of the map and
 // of the one before its latest growth.
-#[derive(Drop)]
+#[derive(Clone, Copy)]
 pub struct State {
     pub stage: Stage,
     pub flipped: bool,
@@ -22,7 +22,7 @@ pub struct State {
 }
 
 // A command's answer, the state after it, and whether the two tables have changed their parts.
-#[derive(Drop)]
+#[derive(Clone, Copy)]
 pub struct Step {
     pub state: State,
     pub flip: bool,

@@ -15,7 +15,7 @@ use model::limits::{BLOCKS, INTERVALS};
 use streams::{read, write};
 
 // After the turns over a block: the machine, the place reached in the log, and whether a write failed, which leaves the rest undone.
-#[derive(Drop)]
+#[derive(Clone, Copy)]
 struct Done {
     machine: Machine,
     text: usize,
@@ -23,7 +23,7 @@ struct Done {
 }
 
 // What ended a run: the end of its input, with all of the text put; a write that failed; or the count of its reads.
-#[derive(Drop)]
+#[derive(Clone, Copy)]
 pub enum End {
     Whole,
     Closed,
@@ -31,7 +31,7 @@ pub enum End {
 }
 
 // A run: how many bytes of its input and of its text its two logs hold, and what ended it.
-#[derive(Drop)]
+#[derive(Clone, Copy)]
 pub struct Outcome {
     pub input: usize,
     pub text: usize,

@@ -6,14 +6,14 @@ ghost use Rattle.std.specs.Prelude.{◌≤◌, ◌<◌, length};
 ghost use Rattle.streams.specs.Streams.{Logged, Read, Written};
 
 // A read: how many bytes it brought, 0 where the input has ended or cannot be read; and the place reached in the log.
-#[derive(Drop)]
+#[derive(Clone, Copy)]
 pub struct Input {
     pub got: usize,
     pub place: usize,
 }
 
 // A write: whether it failed, and the place reached in the log.
-#[derive(Drop)]
+#[derive(Clone, Copy)]
 pub struct Output {
     pub failed: bool,
     pub place: usize,

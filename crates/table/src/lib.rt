@@ -15,7 +15,7 @@ use model::table::Header;
 use reciprocal::{Reciprocal, quotient};
 
 // How the buckets of an interval are placed: the first bin and the number of bins of its block, and its rank adjustment.
-#[derive(Drop)]
+#[derive(Clone, Copy)]
 pub struct Placing {
     pub first: u32,
     pub bins: u32,
@@ -23,7 +23,7 @@ pub struct Placing {
 }
 
 // A place: the bin and the position.
-#[derive(Drop)]
+#[derive(Clone, Copy)]
 pub struct Slot {
     pub bin: u32,
     pub position: u32,

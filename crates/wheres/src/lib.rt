@@ -15,7 +15,7 @@ use model::table::Header;
 use session::act::is_empty;
 
 // The place of the next line of a block, and how many bytes are in the buffer.
-#[derive(Drop)]
+#[derive(Clone, Copy)]
 pub struct Spot {
     pub from: usize,
     pub put: usize,

@@ -14,19 +14,19 @@ use Rattle.decimal.proofs.put_eight.Tie as tie
 below-requires : tie.Need-below-requires
 below-requires c κs = search rules
 
-sub-end : tie.Need-overflow-sub-end
+sub-end : tie.Need-overflow_sub-end
 sub-end c = omega (arith, below_most c.below.ensures)
 
-add-end : tie.Need-overflow-add-end
+add-end : tie.Need-overflow_add-end
 add-end c = search rules
 
-sub-put-digits : tie.Need-overflow-sub-put-digits
+sub-put-digits : tie.Need-overflow_sub-end-2
 sub-put-digits c = omega (arith, below_most c.before.below.ensures)
 
-put-digits-requires : tie.Need-put-digits-requires
+put-digits-requires : tie.Need-put_digits-requires
 put-digits-requires c κs = search rules
 
-slice-write-out : tie.Need-slice-write-out
+slice-write-out : tie.Need-bounds-out-at
 slice-write-out c = search rules
 
 returns : tie.Need-returns
@@ -36,10 +36,10 @@ returns c =
     let most = below_most below.ensures in
     let end = start.args.at + (9 - below.result) in
     let place : end - 8 + below.result ≡ suc start.args.at = omega arith in
-    let eight = c.before.before.put-digits.ensures in
+    let eight = c.before.before.put_digits.ensures in
     lead_done (lead_eight place start.args.n start.requires.0 start.requires.1.0 below.ensures) start.args.out.now eight (omega arith)
 
-same_length : tie.Need-same-length
+same_length : tie.Need-shape_of-out
 same_length c =
     let start = c.before.before.before.before.before.before in
     ap length (returns c).1 ∙ length-sets start.args.out.now start.args.at (32 ∷ decimal start.args.n)

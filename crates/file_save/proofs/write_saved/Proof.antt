@@ -12,49 +12,49 @@ use Rattle.model.proofs.Entries.{put_none, put_more, put_over}
 use Rattle.file_save.proofs.write_saved.Statement.{statement}
 use Rattle.file_save.proofs.write_saved.Tie as tie
 
-cast-block-count : tie.Need-overflow-cast-block-count
+cast-block-count : tie.Need-overflow_cast-block_count
 cast-block-count c = search rules
 
-cast-interval-count : tie.Need-overflow-cast-interval-count
+cast-interval-count : tie.Need-overflow_cast-interval_count
 cast-interval-count c = search rules
 
-mul-ends-at : tie.Need-overflow-mul-ends-at
+mul-ends-at : tie.Need-overflow_mul-ends_at
 mul-ends-at c = search rules
 
-add-ends-at : tie.Need-overflow-add-ends-at
+add-ends-at : tie.Need-overflow_add-ends_at
 add-ends-at c = search rules
 
-mul-blocks-at : tie.Need-overflow-mul-blocks-at
+mul-blocks-at : tie.Need-overflow_mul-blocks_at
 mul-blocks-at c = search rules
 
-add-blocks-at : tie.Need-overflow-add-blocks-at
+add-blocks-at : tie.Need-overflow_add-blocks_at
 add-blocks-at c = search rules
 
-put-number-requires : tie.Need-put-number-requires
+put-number-requires : tie.Need-put_number-requires
 unfolding saved_length
 put-number-requires c κs = omega arith
 
-put-number-requires-2 : tie.Need-put-number-requires-2
+put-number-requires-2 : tie.Need-put_number-requires-2
 unfolding saved_length
 put-number-requires-2 c κs = omega arith
 
-put-number-requires-3 : tie.Need-put-number-requires-3
+put-number-requires-3 : tie.Need-put_number-requires-3
 unfolding saved_length
 put-number-requires-3 c κs = omega arith
 
-put-each-requires : tie.Need-put-each-requires
+put-each-requires : tie.Need-put_each-requires
 unfolding saved_length
 put-each-requires c κs = omega arith
 
-put-numbers-requires : tie.Need-put-numbers-requires
+put-numbers-requires : tie.Need-put_numbers-requires
 unfolding saved_length
 put-numbers-requires c κs = omega arith
 
-put-numbers-requires-2 : tie.Need-put-numbers-requires-2
+put-numbers-requires-2 : tie.Need-put_numbers-requires-2
 unfolding saved_length
 put-numbers-requires-2 c κs = omega arith
 
-same_length : tie.Need-same-length
+same_length : tie.Need-shape_of-out
 same_length c = search rules
 
 returns : tie.Need-returns
@@ -71,19 +71,19 @@ returns c =
     let old = start.args.out.now in
     let a = arrays start.args.tops.now start.args.ends.now start.args.blocks.now [] in
     let room : 12 + 4 * h.block_count + 8 * h.interval_count ≤ length old = start.requires.4 in
-    let s1 = put_more (put_none 0 old) {o' = 4} (bytes_of h.buckets) c1.put-number.ensures refl in
-    let s2 = put_more s1 {o' = 8} (bytes_of h.block_count) c2.put-number2.ensures refl in
-    let s3 = put_more s2 {o' = 12} (bytes_of h.interval_count) c3.put-number3.ensures refl in
+    let s1 = put_more (put_none 0 old) {o' = 4} (bytes_of h.buckets) c1.put_number.ensures refl in
+    let s2 = put_more s1 {o' = 8} (bytes_of h.block_count) c2.put_number-2.ensures refl in
+    let s3 = put_more s2 {o' = 12} (bytes_of h.interval_count) c3.put_number-3.ensures refl in
     let s4 =
-    put_more s3 {o' = 12 + 4 * h.block_count} (bytes_of_all (take h.block_count a.tops)) c4.put-each.ensures
+    put_more s3 {o' = 12 + 4 * h.block_count} (bytes_of_all (take h.block_count a.tops)) c4.put_each.ensures
     (omega (arith, bytes_length a.tops h.block_count start.requires.0)) in
     let s5 =
     put_more s4 {o' = 12 + 4 * h.block_count + 4 * h.interval_count} (bytes_of_all (take h.interval_count a.ends))
-    c5.put-numbers.ensures
+    c5.put_numbers.ensures
     (omega (arith, bytes_length a.ends h.interval_count start.requires.1)) in
     let s6 =
     put_more s5 {o' = 12 + 4 * h.block_count + 8 * h.interval_count} (bytes_of_all (take h.interval_count a.blocks))
-    c6.put-numbers2.ensures
+    c6.put_numbers-2.ensures
     (omega (arith, bytes_length a.blocks h.interval_count start.requires.2)) in
     put_over s6 room
     ∙ ap (λ w. over w old)

@@ -19,7 +19,7 @@ short l b =
     (λ k. le-ltb l ((b + 63) / 64) (omega arith) ∙ sym (le-ltb (64 * l) b k))
     (below_or (64 * l) b)
 
-add-result : tie.Need-overflow-add-result
+add-result : tie.Need-overflow_add-result
 add-result c = omega arith
 
 returns : tie.Need-returns
@@ -28,4 +28,6 @@ returns c =
     ap (ltb (length c.args.bits.now)) (omega arith) ∙ short (length c.args.bits.now) c.args.buckets
 
 pub bits_short_spec : {M : Type 1} → statement M
-bits_short_spec = tie.close (tie.spec add-result returns)
+bits_short_spec = tie.close (tie.spec
+    add-result
+    returns)

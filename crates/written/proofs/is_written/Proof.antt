@@ -8,19 +8,19 @@ use Rattle.written.specs.Written.{written, bit_of}
 use Rattle.written.proofs.is_written.Statement.{statement}
 use Rattle.written.proofs.is_written.Tie as tie
 
-cast-word : tie.Need-overflow-cast-word
+cast-word : tie.Need-overflow_cast-word
 cast-word c = omega arith
 
-mul-word : tie.Need-overflow-mul-word
+mul-word : tie.Need-offset_bounds-bits-x
 mul-word c = omega arith
 
-shared-slice-read-word : tie.Need-shared-slice-read-word
+shared-slice-read-word : tie.Need-bounds-bits-x
 shared-slice-read-word c = omega arith
 
-cast-result : tie.Need-overflow-cast-result
+cast-result : tie.Need-overflow_cast-result
 cast-result c = omega arith
 
-shr-result : tie.Need-overflow-shr-result
+shr-result : tie.Need-overflow_shr-result
 shr-result c = omega arith
 
 returns : tie.Need-returns
@@ -30,4 +30,10 @@ returns c =
 
 pub is_written_spec : {M : Type 1} → statement M
 is_written_spec =
-    tie.close (tie.spec cast-word mul-word shared-slice-read-word cast-result shr-result returns)
+    tie.close (tie.spec
+    cast-word
+    mul-word
+    shared-slice-read-word
+    cast-result
+    shr-result
+    returns)
