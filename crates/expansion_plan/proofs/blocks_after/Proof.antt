@@ -11,30 +11,34 @@ use borrow.Author.Rules.{rules}
 use Rattle.expansion_plan.proofs.blocks_after.Statement.{statement}
 use Rattle.expansion_plan.proofs.blocks_after.Tie as tie
 
-bin-count-requires : tie.Need-bin-count-requires
+bin-count-requires : tie.Need-bin_count-old-requires
 bin-count-requires c κs = search rules
 
-add-result : tie.Need-overflow-add-result
-add-result c = omega (arith, c.before.before.before.before.requires.formed.block_limit)
+add-result : tie.Need-overflow_add-result
+add-result c = omega (arith, c.requires.formed.block_limit)
 
-returns : tie.Need-returns
+returns : tie.Need-returns-then-old-bins
 unfolding table
 returns c ends blocks adjustments s e =
     let start = c.before.before.before.before in
     let t = lent start.args.h start.args.tops.now ends blocks adjustments in
     omega (
       arith,
-      ap length (tops_more t s (omega (arith, c.before.before.bin-count.ensures ends blocks adjustments, c.before.if1.true))),
+      ap length (tops_more t s (omega (arith, c.bin_count-old.ensures ends blocks adjustments, c.if-old-bins.true))),
       length-append t.tops (s.bins ∷ []),
       tops_length _ _ start.requires.formed,
     )
 
-returns-2 : tie.Need-returns-2
+returns-2 : tie.Need-returns
 unfolding table
 returns-2 c ends blocks adjustments s e =
     sym
-    (ap length (tops_same _ s (omega (arith, c.before.bin-count.ensures ends blocks adjustments, c.if1.false)))
-    ∙ tops_length _ _ c.before.before.before.requires.formed)
+    (ap length (tops_same _ s (omega (arith, c.bin_count-old.ensures ends blocks adjustments, c.if-old-bins.false)))
+    ∙ tops_length _ _ c.requires.formed)
 
 pub blocks_after_spec : {M : Type 1} → statement M
-blocks_after_spec = tie.close (tie.spec bin-count-requires add-result returns returns-2)
+blocks_after_spec = tie.close (tie.spec
+    bin-count-requires
+    add-result
+    returns
+    returns-2)

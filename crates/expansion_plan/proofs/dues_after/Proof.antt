@@ -43,8 +43,8 @@ unfolding due_after grown_tops bins table
 after-tops s ends blocks adjustments j = refl
 
 -- the number of its bins
-old : (c : tie.After-bin-count) → c.bin-count.result ≡ bins (t c.before.before)
-old c = c.bin-count.ensures _ _ _
+old : (c : tie.After-bin_count-old) → c.bin_count-old.result ≡ bins (t c.before.before)
+old c = c.bin_count-old.ensures _ _ _
 
 -- the old blocks' dues, written over zeros
 whole
@@ -53,79 +53,79 @@ whole
 unfolding table
 whole s d = dues_whole _ _ _ _ _ d (rest s).formed.tops_long s.requires.1
 
-bin-count-requires : tie.Need-bin-count-requires
-bin-count-requires c κs = c.before.requires.0.whole
+bin-count-requires : tie.Need-bin_count-old-requires
+bin-count-requires c κs = c.requires.0.whole
 
-cast-block-dues : tie.Need-overflow-cast-block-dues
+cast-block-dues : tie.Need-overflow_cast-h
 cast-block-dues c = search rules
 
-block-dues-requires : tie.Need-block-dues-requires
+block-dues-requires : tie.Need-block_dues-requires
 block-dues-requires c κs =
     let start = c.before.before.before.before in
     let formed = (rest start).formed in
     (formed_tops _ _ formed _ (omega (arith, bins_last _ _ formed, (asked start).more_bins)), rw start.requires.1 formed.block_limit)
 
-div-due-below : tie.Need-nonzero-div-due-below
+div-due-below : tie.Need-nonzero_div-buckets
 div-due-below c = (asked c.before.before.before.before.before.before).some_bins
 
-rem-due-below : tie.Need-nonzero-rem-due-below
+rem-due-below : tie.Need-nonzero_rem-buckets
 rem-due-below c = (asked c.before.before.before.before.before.before).some_bins
 
-due-below-requires : tie.Need-due-below-requires
+due-below-requires : tie.Need-due_below-requires
 unfolding due_below
 due-below-requires c κs =
     let n = c.before.before.before.before in
     let start = n.before.before in
-    omega (arith, due_within (z start) n.bin-count.result (omega (arith, old n, (asked start).more_bins)), start.ranges.buckets)
+    omega (arith, due_within (z start) n.bin_count-old.result (omega (arith, old n, (asked start).more_bins)), start.ranges.buckets)
 
-sub-dues : tie.Need-overflow-sub-dues
+sub-dues : tie.Need-overflow_sub-dues
 unfolding due_below
 sub-dues c =
     let n = c.before.before.before.before.before in
     let start = n.before.before in
-    omega (arith, due_within (z start) n.bin-count.result (omega (arith, old n, (asked start).more_bins)), c.due_below.ensures)
+    omega (arith, due_within (z start) n.bin_count-old.result (omega (arith, old n, (asked start).more_bins)), c.due_below.ensures)
 
-cast-dues : tie.Need-overflow-cast-dues
+cast-dues : tie.Need-overflow_cast-dues
 cast-dues c = search rules
 
-mul-dues : tie.Need-overflow-mul-dues
+mul-dues : tie.Need-offset_bounds-dues-h
 mul-dues c = search rules
 
-element-write-dues : tie.Need-element-write-dues
+element-write-dues : tie.Need-bounds-dues-h
 element-write-dues c =
-    let n = c.before.before.before.before.before.before in
+    let n = c.before.before.before.before.before.before.before in
     let start = n.before.before in
     omega (
       arith,
       tops_length _ _ (rest start).formed,
-      new_room (t start) (z start) (well start) (asked start) (omega (arith, old n, c.before.before.if1.true)),
+      new_room (t start) (z start) (well start) (asked start) (omega (arith, old n, c.if-old-bins.true)),
     )
 
-returns : tie.Need-returns
+returns : tie.Need-returns-then-old-bins
 unfolding due_below table
 returns c ends blocks adjustments j l =
-    let n = c.before.before.before.before.before.before in
+    let n = c.before.before.before.before.before.before.before in
     let start = n.before.before in
     let below = ap (due_below (z start)) (old n) in
-    let within = due_within (z start) n.bin-count.result (omega (arith, old n, (asked start).more_bins)) in
+    let within = due_within (z start) n.bin_count-old.result (omega (arith, old n, (asked start).more_bins)) in
     (rw (tops_length _ _ (rest start).formed) at
-    (After_more (t start) (z start) (well start) (asked start) (omega (arith, old n, c.before.before.if1.true))
-    (start.args.buckets - c.before.due_below.result)
-    c.before.before.before.block-dues.new.1.1.1.1.0
-    (c.before.before.before.block-dues.ensures.cells ∙ ap length start.requires.1)
-    (omega (arith, within, c.before.due_below.ensures))
-    (λ k b. whole start c.before.before.before.block-dues.ensures k)
+    (After_more (t start) (z start) (well start) (asked start) (omega (arith, old n, c.if-old-bins.true))
+    (start.args.buckets - c.due_below.result)
+    c.block_dues.new.dues
+    (c.block_dues.ensures.cells ∙ ap length start.requires.1)
+    (omega (arith, within, c.due_below.ensures))
+    (λ k b. whole start c.block_dues.ensures k)
     j
     l))
     ∙ after-tops start ends blocks adjustments j
 
-returns-2 : tie.Need-returns-2
+returns-2 : tie.Need-returns-else-old-bins
 unfolding table
 returns-2 c ends blocks adjustments j l =
     let n = c.before.before.before.before in
-    let t = lent n.before.before.args.h n.before.before.args.tops.now ends blocks adjustments in
-    whole n.before.before c.before.block-dues.ensures j
-    ∙ sym (after_same t (z n.before.before) (omega (arith, n.bin-count.ensures ends blocks adjustments, c.if1.false)) j)
+    let t = lent n.args.h n.args.tops.now ends blocks adjustments in
+    whole n.before.before c.block_dues.ensures j
+    ∙ sym (after_same t (z n.before.before) (omega (arith, n.bin_count-old.ensures ends blocks adjustments, c.if-old-bins.false)) j)
 
 pub dues_after_spec : {M : Type 1} → statement M
 dues_after_spec =

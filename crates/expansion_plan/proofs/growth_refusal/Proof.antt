@@ -23,91 +23,91 @@ abbrev z : tie.Start → Shape
 z s = sizes s.args.buckets s.args.bins
 
 -- past rules 1 and 2: the function's entry, and that they hold
-abbrev entry : tie.Else1 → tie.Start
+abbrev entry : tie.Else-refusal-ne0 → tie.Start
 entry c = c.before.before.before
 
-sized : (c : tie.Else1) → first (size_tests (z (entry c))) ≡ 0
-sized c = sym c.before.size-refusal.ensures ∙ c.if1.false
+sized : (c : tie.Else-refusal-ne0) → first (size_tests (z (entry c))) ≡ 0
+sized c = sym c.size_refusal-refusal.ensures ∙ c.if-refusal-ne0.false
 
 -- the number of blocks
 count
-    : (c : tie.Else1) → length (take (entry c).args.h.block_count (entry c).args.tops.now) ≡ (entry c).args.h.block_count
+    : (c : tie.Else-refusal-ne0) → length (take (entry c).args.h.block_count (entry c).args.tops.now) ≡ (entry c).args.h.block_count
 count c = length-take-le _ _ (entry c).requires.formed.tops_long
 
-size-refusal-requires : tie.Need-size-refusal-requires
+size-refusal-requires : tie.Need-size_refusal-refusal-requires
 size-refusal-requires c κs = search rules
 
-returns : tie.Need-returns
+returns : tie.Need-returns-then-refusal-ne0
 returns c ends blocks adjustments =
-    c.before.size-refusal.ensures
-    ∙ sym (asked_sizes _ _ (λ e. c.if1.true (c.before.size-refusal.ensures ∙ e)))
+    c.size_refusal-refusal.ensures
+    ∙ sym (asked_sizes _ _ (λ e. c.if-refusal-ne0.true (c.size_refusal-refusal.ensures ∙ e)))
 
-returns-2 : tie.Need-returns-2
+returns-2 : tie.Need-returns-then-buckets-h
 unfolding table
 returns-2 c ends blocks adjustments =
     let p = c.before.before in
-    sym (asked_fewer (t (entry p) ends blocks adjustments) (z (entry p)) (sized p) c.if2.true)
+    sym (asked_fewer (t (entry p) ends blocks adjustments) (z (entry p)) (sized p) c.if-buckets-h.true)
 
-bin-count-requires : tie.Need-bin-count-requires
+bin-count-requires : tie.Need-bin_count-old-requires
 bin-count-requires c κs = search rules
 
-returns-3 : tie.Need-returns-3
+returns-3 : tie.Need-returns-then-bins-old
 unfolding table
 returns-3 c ends blocks adjustments =
     let p = c.before.before.before.before in
     sym
-    (asked_narrower (t (entry p) ends blocks adjustments) (z (entry p)) (sized p) c.before.before.if2.false
-    (omega (arith, c.before.bin-count.ensures ends blocks adjustments, c.if3.true)))
+    (asked_narrower (t (entry p) ends blocks adjustments) (z (entry p)) (sized p) c.if-buckets-h.false
+    (omega (arith, c.bin_count-old.ensures ends blocks adjustments, c.if-bins-old.true)))
 
-returns-4 : tie.Need-returns-4
+returns-4 : tie.Need-returns-then-h-eq-MAX_BLOCKS
 unfolding table
 returns-4 c ends blocks adjustments =
     let p = c.before.before.before.before.before.before.before in
-    let n = c.before.before.before.before.bin-count.ensures ends blocks adjustments in
+    let n = c.bin_count-old.ensures ends blocks adjustments in
     sym
-    (asked_full (t (entry p) ends blocks adjustments) (z (entry p)) (sized p) c.before.before.before.before.before.if2.false
-    (omega (arith, n, c.before.before.if4.true))
-    (count p ∙ c.if5.true))
+    (asked_full (t (entry p) ends blocks adjustments) (z (entry p)) (sized p) c.if-buckets-h.false
+    (omega (arith, n, c.if-old-bins.true))
+    (count p ∙ c.if-h-eq-MAX_BLOCKS.true))
 
-overfull-refusal-requires : tie.Need-overfull-refusal-requires
+overfull-refusal-requires : tie.Need-overfull_refusal-requires
 overfull-refusal-requires c κs = (allowed _ (sized c.before.before.before.before.before.before.before)).some_bins
 
-returns-5 : tie.Need-returns-5
+returns-5 : tie.Need-returns-then-old-bins
 unfolding table
 returns-5 c ends blocks adjustments =
     let l = c.before in
     let p = l.before.before.before.before.before.before.before in
-    let n = l.before.before.before.before.bin-count.ensures ends blocks adjustments in
-    c.overfull-refusal.ensures
+    let n = l.bin_count-old.ensures ends blocks adjustments in
+    c.overfull_refusal.ensures
     ∙ sym
-    (asked_wider (t (entry p) ends blocks adjustments) (z (entry p)) (sized p) l.before.before.before.before.before.if2.false
-    (omega (arith, n, l.before.before.if4.true))
-    (λ e. l.if5.false (sym (count p) ∙ e)))
+    (asked_wider (t (entry p) ends blocks adjustments) (z (entry p)) (sized p) l.if-buckets-h.false
+    (omega (arith, n, l.if-old-bins.true))
+    (λ e. l.if-h-eq-MAX_BLOCKS.false (sym (count p) ∙ e)))
 
-returns-6 : tie.Need-returns-6
+returns-6 : tie.Need-returns-then-buckets-h-2
 unfolding table
 returns-6 c ends blocks adjustments =
     let p = c.before.before.before.before.before.before.before in
-    let n = c.before.before.before.before.bin-count.ensures ends blocks adjustments in
+    let n = c.bin_count-old.ensures ends blocks adjustments in
     sym
-    (asked_same (t (entry p) ends blocks adjustments) (z (entry p)) (sized p) c.before.before.before.before.before.if2.false
-    (omega (arith, n, c.before.before.before.if3.false, c.before.before.if4.false))
-    c.if6.true)
+    (asked_same (t (entry p) ends blocks adjustments) (z (entry p)) (sized p) c.if-buckets-h.false
+    (omega (arith, n, c.if-bins-old.false, c.if-old-bins.false))
+    c.if-buckets-h-2.true)
 
-overfull-refusal-requires-2 : tie.Need-overfull-refusal-requires-2
+overfull-refusal-requires-2 : tie.Need-overfull_refusal-requires-2
 overfull-refusal-requires-2 c κs = (allowed _ (sized c.before.before.before.before.before.before.before)).some_bins
 
-returns-7 : tie.Need-returns-7
+returns-7 : tie.Need-returns
 unfolding table
 returns-7 c ends blocks adjustments =
     let l = c.before in
     let p = l.before.before.before.before.before.before.before in
-    let n = l.before.before.before.before.bin-count.ensures ends blocks adjustments in
-    c.overfull-refusal2.ensures
+    let n = l.bin_count-old.ensures ends blocks adjustments in
+    c.overfull_refusal-2.ensures
     ∙ sym
-    (asked_more (t (entry p) ends blocks adjustments) (z (entry p)) (sized p) l.before.before.before.before.before.if2.false
-    (omega (arith, n, l.before.before.before.if3.false, l.before.before.if4.false))
-    l.if6.false)
+    (asked_more (t (entry p) ends blocks adjustments) (z (entry p)) (sized p) l.if-buckets-h.false
+    (omega (arith, n, l.if-bins-old.false, l.if-old-bins.false))
+    l.if-buckets-h-2.false)
 
 pub growth_refusal_spec : {M : Type 1} → statement M
 growth_refusal_spec =

@@ -20,7 +20,7 @@ abbrev entry : tie.After-is_outside → tie.Start
 entry c = c.before.before.before.before.before
 
 abbrev out : tie.After-is_outside → Arrays
-out c = let a = (entry c).args in arrays a.tops-1.now a.ends-1.now a.blocks.now a.adjustments-1.now
+out c = let a = (entry c).args in arrays a.tops.now a.ends.now a.blocks.now a.adjustments.now
 
 -- the capacity is within its limits
 within : (c : tie.Else-is_outside) → outside max_capacity (entry c.before).args.capacity ≡ false

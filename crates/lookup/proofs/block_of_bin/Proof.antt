@@ -5,35 +5,35 @@ use Rattle.lookup.proofs.Finding.{Passed, passed_none, passed_found, passed_more
 use Rattle.lookup.proofs.block_of_bin.Statement.{statement}
 use Rattle.lookup.proofs.block_of_bin.Tie as tie
 
-abbrev invariant-loop : tie.invariant-loop
+abbrev invariant-loop : tie.invariant-loop-block
 invariant-loop tops count bin block₀ block = Passed tops count bin block
 
-abbrev decreases-loop : tie.decreases-loop
+abbrev decreases-loop : tie.decreases-loop-block
 decreases-loop tops count bin block₀ block = count - block
 
-loop-holds : tie.Need-loop-init invariant-loop decreases-loop
+loop-holds : tie.Need-loop-block-init invariant-loop decreases-loop
 loop-holds c = passed_none _ _ _ c.requires
 
-mul-if1 : tie.Need-overflow-mul-if1 invariant-loop decreases-loop
+mul-if1 : tie.Need-offset_bounds-tops-block invariant-loop decreases-loop
 mul-if1 c = omega arith
 
-shared-slice-read-if1 : tie.Need-shared-slice-read-if1 invariant-loop decreases-loop
+shared-slice-read-if1 : tie.Need-bounds-tops-block invariant-loop decreases-loop
 shared-slice-read-if1 c = omega arith
 
-returns : tie.Need-returns invariant-loop decreases-loop
-returns c = passed_found _ _ _ c.before.before.before.before.requires _ c.before.before.before.loop.invariant (omega arith) c.if1.true
+returns : tie.Need-returns-then-bin-tops invariant-loop decreases-loop
+returns c = passed_found _ _ _ c.requires _ c.loop-block.invariant (omega arith) c.if-bin-tops.true
 
-add-block : tie.Need-overflow-add-block invariant-loop decreases-loop
+add-block : tie.Need-overflow_add-block invariant-loop decreases-loop
 add-block c = omega arith
 
-loop-less : tie.Need-loop-smaller invariant-loop decreases-loop
+loop-less : tie.Need-loop-block-smaller invariant-loop decreases-loop
 loop-less c = omega arith
 
-loop-again : tie.Need-loop-preserved invariant-loop decreases-loop
-loop-again c = passed_more _ _ _ c.before.before.before.before.requires _ c.before.before.before.loop.invariant (omega arith) c.if1.false
+loop-again : tie.Need-loop-block-preserved invariant-loop decreases-loop
+loop-again c = passed_more _ _ _ c.requires _ c.loop-block.invariant (omega arith) c.if-bin-tops.false
 
-returns-2 : tie.Need-returns-2 invariant-loop decreases-loop
-returns-2 c = passed_all _ _ _ c.before.before.requires _ c.before.loop.invariant (omega arith)
+returns-2 : tie.Need-returns invariant-loop decreases-loop
+returns-2 c = passed_all _ _ _ c.requires _ c.loop-block.invariant (omega arith)
 
 pub block_of_bin_spec : {M : Type 1} → statement M
 block_of_bin_spec =

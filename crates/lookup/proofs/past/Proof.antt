@@ -6,10 +6,10 @@ use borrow.Author.Rules.{rules}
 use Rattle.lookup.proofs.past.Statement.{statement}
 use Rattle.lookup.proofs.past.Tie as tie
 
-add-result : tie.Need-overflow-add-result
+add-result : tie.Need-overflow_add-result
 add-result c = search rules
 
-sub-result : tie.Need-overflow-sub-result
+sub-result : tie.Need-overflow_sub-result
 sub-result c = search rules
 
 returns : tie.Need-returns
@@ -17,4 +17,7 @@ returns c =
     ⊎_elim (λ l. inr (l, omega arith)) (λ l. inl (l, omega arith)) (below_or c.args.bucket c.args.end)
 
 pub past_spec : {M : Type 1} → statement M
-past_spec = tie.close (tie.spec add-result sub-result returns)
+past_spec = tie.close (tie.spec
+    add-result
+    sub-result
+    returns)

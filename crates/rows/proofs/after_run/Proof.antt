@@ -5,13 +5,13 @@ use borrow.Author.Rules.{rules}
 use Rattle.rows.proofs.after_run.Statement.{statement}
 use Rattle.rows.proofs.after_run.Tie as tie
 
-add-place : tie.Need-overflow-add-place
+add-place : tie.Need-overflow_add-place
 add-place c = search rules
 
-sub-t7 : tie.Need-overflow-sub-t7
+sub-t7 : tie.Need-overflow_sub-result
 sub-t7 c = search rules
 
-returns : tie.Need-returns
+returns : tie.Need-returns-then-run-turn
 returns c =
     λ f rank h.
     record {
@@ -22,13 +22,13 @@ returns c =
       whole = omega (arith, h.whole);
     }
 
-add-t5 : tie.Need-overflow-add-t5
+add-t5 : tie.Need-overflow_add-result
 add-t5 c = search rules
 
-sub-t9 : tie.Need-overflow-sub-t9
+sub-t9 : tie.Need-overflow_sub-result-2
 sub-t9 c = search rules
 
-returns-2 : tie.Need-returns-2
+returns-2 : tie.Need-returns
 returns-2 c =
     λ f rank h.
     record {
@@ -40,4 +40,10 @@ returns-2 c =
     }
 
 pub after_run_spec : {M : Type 1} → statement M
-after_run_spec = tie.close (tie.spec add-place sub-t7 returns add-t5 sub-t9 returns-2)
+after_run_spec = tie.close (tie.spec
+    add-place
+    sub-t7
+    returns
+    add-t5
+    sub-t9
+    returns-2)

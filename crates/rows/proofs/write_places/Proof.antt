@@ -16,10 +16,10 @@ low-requires-2 c κs = search rules
 high-requires-2 : tie.Need-high-requires-2
 high-requires-2 c κs = search rules
 
-write-row-requires : tie.Need-write-row-requires
+write-row-requires : tie.Need-write_row-requires
 write-row-requires c κs = search rules
 
-same_length : tie.Need-same-length
+same_length : tie.Need-shape_of-rows
 same_length c = search rules
 
 returns : tie.Need-returns

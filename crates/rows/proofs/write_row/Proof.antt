@@ -10,49 +10,49 @@ use borrow.Author.Rules.{rules}
 use Rattle.rows.proofs.write_row.Statement.{statement}
 use Rattle.rows.proofs.write_row.Tie as tie
 
-mul-rows : tie.Need-overflow-mul-rows
+mul-rows : tie.Need-offset_bounds-rows-at
 mul-rows c = search rules
 
-slice-write-rows : tie.Need-slice-write-rows
+slice-write-rows : tie.Need-bounds-rows-at
 slice-write-rows c = search rules
 
-add-rows : tie.Need-overflow-add-rows
+add-rows : tie.Need-overflow_add-rows
 add-rows c = search rules
 
-mul-rows-2 : tie.Need-overflow-mul-rows-2
+mul-rows-2 : tie.Need-offset_bounds-rows-at-2
 mul-rows-2 c = search rules
 
-slice-write-rows-2 : tie.Need-slice-write-rows-2
+slice-write-rows-2 : tie.Need-bounds-rows-at-2
 slice-write-rows-2 c = simp length-set (omega arith)
 
-add-rows-2 : tie.Need-overflow-add-rows-2
+add-rows-2 : tie.Need-overflow_add-rows-2
 add-rows-2 c = search rules
 
-mul-rows-3 : tie.Need-overflow-mul-rows-3
+mul-rows-3 : tie.Need-offset_bounds-rows-at-3
 mul-rows-3 c = search rules
 
-slice-write-rows-3 : tie.Need-slice-write-rows-3
+slice-write-rows-3 : tie.Need-bounds-rows-at-3
 slice-write-rows-3 c = simp length-set (omega arith)
 
-add-rows-3 : tie.Need-overflow-add-rows-3
+add-rows-3 : tie.Need-overflow_add-rows-3
 add-rows-3 c = search rules
 
-mul-rows-4 : tie.Need-overflow-mul-rows-4
+mul-rows-4 : tie.Need-offset_bounds-rows-at-4
 mul-rows-4 c = search rules
 
-slice-write-rows-4 : tie.Need-slice-write-rows-4
+slice-write-rows-4 : tie.Need-bounds-rows-at-4
 slice-write-rows-4 c = simp length-set (omega arith)
 
-add-rows-4 : tie.Need-overflow-add-rows-4
+add-rows-4 : tie.Need-overflow_add-rows-4
 add-rows-4 c = search rules
 
-mul-rows-5 : tie.Need-overflow-mul-rows-5
+mul-rows-5 : tie.Need-offset_bounds-rows-at-5
 mul-rows-5 c = search rules
 
-slice-write-rows-5 : tie.Need-slice-write-rows-5
+slice-write-rows-5 : tie.Need-bounds-rows-at-5
 slice-write-rows-5 c = simp length-set (omega arith)
 
-same_length : tie.Need-same-length
+same_length : tie.Need-shape_of-rows
 same_length c = simp length-set
 
 -- five numbers, one behind the other
@@ -63,8 +63,8 @@ five-stores l o a b c d e = simp towards_suc
 
 returns : tie.Need-returns
 returns c =
-    five-stores c.args.rows.now c.args.at c.args.bucket c.args.old-bin c.args.old-position c.args.new-bin
-    c.args.new-position
+    five-stores c.args.rows.now c.args.at c.args.bucket c.args.old_bin c.args.old_position c.args.new_bin
+    c.args.new_position
 
 pub write_row_spec : {M : Type 1} → statement M
 write_row_spec =

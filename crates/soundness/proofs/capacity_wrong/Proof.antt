@@ -14,31 +14,36 @@ limited : (l p : ℕ) (w : Bool) → w ≡ outside l p → l ≡ max_capacity �
 unfolding capacity_outside
 limited l p w e same = e ∙ ap (λ l. outside l p) same
 
-is-outside-requires : tie.Need-is-outside-requires
+is-outside-requires : tie.Need-is_outside-requires
 is-outside-requires c κs = search rules
 
-returns : tie.Need-returns
+returns : tie.Need-returns-then-is_outside
 unfolding capacity_wrong
 returns c ends blocks adjustments formed =
-    sym (or_first _ _ (sym (limited _ _ _ c.before.is-outside.ensures (omega arith)) ∙ c.if1.true))
+    sym (or_first _ _ (sym (limited _ _ _ c.is_outside.ensures (omega arith)) ∙ c.if-is_outside.true))
 
-bin-count-requires : tie.Need-bin-count-requires
+bin-count-requires : tie.Need-bin_count-requires
 bin-count-requires c κs = search rules
 
 overfull-requires : tie.Need-overfull-requires
 overfull-requires c κs =
-    let whole = c.before.before.before.before.requires in
-    subst (λ n. 1 ≤ n) (sym (c.bin-count.ensures _ _ _)) (some_bins_lem _ (formed_well _ _ whole.formed))
+    let whole = c.requires in
+    subst (λ n. 1 ≤ n) (sym (c.bin_count.ensures _ _ _)) (some_bins_lem _ (formed_well _ _ whole.formed))
 
-returns-2 : tie.Need-returns-2
+returns-2 : tie.Need-returns
 unfolding shape table
 returns-2 c ends blocks adjustments formed =
     let limits = c.before.before in
-    let h = limits.before.before.before.args.h in
+    let h = limits.args.h in
     c.overfull.ensures
-    ∙ ap (λ n. overfills h.capacity (sizes h.buckets n)) (c.before.bin-count.ensures ends blocks adjustments)
-    ∙ sym (capacity_due _ _ formed ∙ or_last _ _ (sym (limited _ _ _ limits.before.is-outside.ensures (omega arith)) ∙ limits.if1.false))
+    ∙ ap (λ n. overfills h.capacity (sizes h.buckets n)) (c.bin_count.ensures ends blocks adjustments)
+    ∙ sym (capacity_due _ _ formed ∙ or_last _ _ (sym (limited _ _ _ limits.is_outside.ensures (omega arith)) ∙ limits.if-is_outside.false))
 
 pub capacity_wrong_spec : {M : Type 1} → statement M
 capacity_wrong_spec =
-    tie.close (tie.spec is-outside-requires returns bin-count-requires overfull-requires returns-2)
+    tie.close (tie.spec
+    is-outside-requires
+    returns
+    bin-count-requires
+    overfull-requires
+    returns-2)

@@ -10,98 +10,98 @@ use Rattle.soundness.proofs.Turns.{bins_some, due_turn}
 use Rattle.soundness.proofs.holdings_wrong.Statement.{statement}
 use Rattle.soundness.proofs.holdings_wrong.Tie as tie
 
-abbrev invariant-loop : tie.invariant-loop
+abbrev invariant-loop : tie.invariant-loop-j
 invariant-loop h tops sums bins quotient remainder below₀ j₀ below j =
     (j ≤ h.block_count)
     × (below ≡ due_below (lent_shape h tops) (before tops j))
     × ((m : ℕ) → m < j → get_or sums m 0 ≡ due_of_block (lent_shape h tops) tops m)
 
-abbrev decreases-loop : tie.decreases-loop
+abbrev decreases-loop : tie.decreases-loop-j
 decreases-loop h tops sums bins quotient remainder below₀ j₀ below j = h.block_count - j
 
-cast-bins : tie.Need-overflow-cast-bins invariant-loop decreases-loop
+cast-bins : tie.Need-overflow_cast-bins invariant-loop decreases-loop
 cast-bins c = omega arith
 
-sub-bins : tie.Need-overflow-sub-bins invariant-loop decreases-loop
+sub-bins : tie.Need-overflow_sub-bins invariant-loop decreases-loop
 sub-bins c = omega arith
 
-mul-bins : tie.Need-overflow-mul-bins invariant-loop decreases-loop
+mul-bins : tie.Need-offset_bounds-tops-h invariant-loop decreases-loop
 mul-bins c = omega arith
 
-shared-slice-read-bins : tie.Need-shared-slice-read-bins invariant-loop decreases-loop
+shared-slice-read-bins : tie.Need-bounds-tops-h invariant-loop decreases-loop
 shared-slice-read-bins c = omega arith
 
-div-quotient : tie.Need-nonzero-div-quotient invariant-loop decreases-loop
-div-quotient c = bins_some _ _ c.before.before.before.before.requires
+div-quotient : tie.Need-nonzero_div-quotient invariant-loop decreases-loop
+div-quotient c = bins_some _ _ c.requires
 
-rem-remainder : tie.Need-nonzero-rem-remainder invariant-loop decreases-loop
-rem-remainder c = bins_some _ _ c.before.before.before.before.before.requires
+rem-remainder : tie.Need-nonzero_rem-remainder invariant-loop decreases-loop
+rem-remainder c = bins_some _ _ c.requires
 
-loop-holds : tie.Need-loop-init invariant-loop decreases-loop
+loop-holds : tie.Need-loop-j-init invariant-loop decreases-loop
 loop-holds c = (omega arith, sym (due_none _ _), below_none _)
 
-cast-if1 : tie.Need-overflow-cast-if1 invariant-loop decreases-loop
+cast-if1 : tie.Need-overflow_cast-h invariant-loop decreases-loop
 cast-if1 c = omega arith
 
-mul-due-below : tie.Need-overflow-mul-due-below invariant-loop decreases-loop
+mul-due-below : tie.Need-offset_bounds-tops-j invariant-loop decreases-loop
 mul-due-below c = omega arith
 
-shared-slice-read-due-below : tie.Need-shared-slice-read-due-below invariant-loop decreases-loop
+shared-slice-read-due-below : tie.Need-bounds-tops-j invariant-loop decreases-loop
 shared-slice-read-due-below c = omega arith
 
-due-below-requires : tie.Need-due-below-requires invariant-loop decreases-loop
+due-below-requires : tie.Need-due_below-through-requires invariant-loop decreases-loop
 unfolding due_below
 due-below-requires c κs =
-    let t = due_turn _ _ c.before.before.before.before.before.before.before.before.before.requires c.before.before.before.loop.j (omega arith) in
+    let t = due_turn _ _ c.requires c.loop-j.j (omega arith) in
     omega arith
 
-mul-if2 : tie.Need-overflow-mul-if2 invariant-loop decreases-loop
+mul-if2 : tie.Need-offset_bounds-sums-j invariant-loop decreases-loop
 mul-if2 c = omega arith
 
-element-copy-out-if2 : tie.Need-element-copy-out-if2 invariant-loop decreases-loop
+element-copy-out-if2 : tie.Need-bounds-sums-j invariant-loop decreases-loop
 element-copy-out-if2 c = omega arith
 
-sub-if2 : tie.Need-overflow-sub-if2 invariant-loop decreases-loop
+sub-if2 : tie.Need-overflow_sub-through invariant-loop decreases-loop
 unfolding due_below
 sub-if2 c =
-    let t = due_turn _ _ c.before.before.before.before.before.before.before.before.before.before.before.requires
-    c.before.before.before.before.before.loop.j (omega arith) in
-    omega (arith, c.before.due_below.ensures)
+    let t = due_turn _ _ c.requires
+    c.loop-j.j (omega arith) in
+    omega (arith, c.due_below-through.ensures)
 
-returns : tie.Need-returns invariant-loop decreases-loop
+returns : tie.Need-returns-then-sums-j invariant-loop decreases-loop
 unfolding due_below
 returns c ends blocks sums =
-    let tops = c.before.before.before.before.before.before.before.before.before.before.before.before.requires in
-    let j = c.before.before.before.before.before.before.loop.j in
+    let tops = c.requires in
+    let j = c.loop-j.j in
     let t = due_turn _ _ tops j (omega arith) in
     sym
     (holdings_fail _ _ tops.some tops.long j (omega arith)
     (λ e.
-    c.if2.true
-    (sums.cell j (omega arith) ∙ held_same _ _ _ _ _ _ _ j _ ∙ e ∙ omega (arith, c.before.before.due_below.ensures))))
+    c.if-sums-j.true
+    (sums.cell j (omega arith) ∙ held_same _ _ _ _ _ _ _ j _ ∙ e ∙ omega (arith, c.due_below-through.ensures))))
 
-add-j : tie.Need-overflow-add-j invariant-loop decreases-loop
+add-j : tie.Need-overflow_add-j invariant-loop decreases-loop
 add-j c = omega arith
 
-loop-less : tie.Need-loop-smaller invariant-loop decreases-loop
+loop-less : tie.Need-loop-j-smaller invariant-loop decreases-loop
 loop-less c = omega arith
 
-loop-again : tie.Need-loop-preserved invariant-loop decreases-loop
+loop-again : tie.Need-loop-j-preserved invariant-loop decreases-loop
 unfolding due_below
 loop-again c =
-    let t = due_turn _ _ c.before.before.before.before.before.before.before.before.before.before.before.before.requires
-    c.before.before.before.before.before.before.loop.j (omega arith) in (
+    let t = due_turn _ _ c.requires
+    c.loop-j.j (omega arith) in (
       omega arith,
-      rw before_next (omega (arith, c.before.before.due_below.ensures)),
-      below_more _ _ c.before.before.before.before.before.before.loop.invariant.2 (omega (arith, c.before.before.due_below.ensures, c.if2.false)),
+      rw before_next (omega (arith, c.due_below-through.ensures)),
+      below_more _ _ c.loop-j.invariant.2 (omega (arith, c.due_below-through.ensures, c.if-sums-j.false)),
     )
 
-returns-2 : tie.Need-returns-2 invariant-loop decreases-loop
+returns-2 : tie.Need-returns invariant-loop decreases-loop
 returns-2 c ends blocks sums =
-    let tops = c.before.before.before.before.before.before.before.before.requires in
+    let tops = c.requires in
     sym
     (holdings_right _ _ tops.some tops.long
-    (λ j l. held_same _ _ _ _ _ _ _ j _ ∙ sym (sums.cell j (omega arith)) ∙ c.before.before.loop.invariant.2 j (omega arith)))
+    (λ j l. held_same _ _ _ _ _ _ _ j _ ∙ sym (sums.cell j (omega arith)) ∙ c.loop-j.invariant.2 j (omega arith)))
 
 pub holdings_wrong_spec : {M : Type 1} → statement M
 holdings_wrong_spec =

@@ -9,62 +9,62 @@ use Rattle.soundness.proofs.Answers.{judged_layout, judged_adjustments, judged_h
 use Rattle.soundness.proofs.judged_alone.Statement.{statement}
 use Rattle.soundness.proofs.judged_alone.Tie as tie
 
-layout-refusal-requires : tie.Need-layout-refusal-requires
+layout-refusal-requires : tie.Need-layout_refusal-broken-requires
 layout-refusal-requires c κs = search rules
 
-returns : tie.Need-returns
-returns c = judged_layout _ _ _ _ _ _ c.before.layout-refusal.ensures c.if1.true
+returns : tie.Need-returns-then-broken-ne0
+returns c = judged_layout _ _ _ _ _ _ c.layout_refusal-broken.ensures c.if-broken-ne0.true
 
 -- rules 12 to 14 are passed
-abbrev entry : tie.Else1 → tie.Start
+abbrev entry : tie.Else-broken-ne0 → tie.Start
 entry c = c.before.before.before.before.before.before
 
 clear
-    : (c : tie.Else1)
+    : (c : tie.Else-broken-ne0)
     → first (layout_tests (alone (entry c).args.buckets (entry c).args.capacity) (entry c).args.tops.now (entry c).args.ends.now (entry c).args.blocks.now) ≡ 0
-clear c = sym c.before.layout-refusal.ensures ∙ c.if1.false
+clear c = sym c.layout_refusal-broken.ensures ∙ c.if-broken-ne0.false
 
-tops-done : (c : tie.Else1) → TopsRight (alone (entry c).args.buckets (entry c).args.capacity) (entry c).args.tops.now
+tops-done : (c : tie.Else-broken-ne0) → TopsRight (alone (entry c).args.buckets (entry c).args.capacity) (entry c).args.tops.now
 tops-done c = tops_right _ _ _ _ (entry c).requires.0 (laid _ _ _ _ (clear c))
 
-intervals-done : (c : tie.Else1) → IntervalsRight (alone (entry c).args.buckets (entry c).args.capacity) (entry c).args.ends.now (entry c).args.blocks.now
+intervals-done : (c : tie.Else-broken-ne0) → IntervalsRight (alone (entry c).args.buckets (entry c).args.capacity) (entry c).args.ends.now (entry c).args.blocks.now
 intervals-done c = intervals_right _ _ _ _ (entry c).requires.0 (laid _ _ _ _ (clear c))
 
 -- the walk has been made
-abbrev passed : tie.After-walked-from → tie.Else1
+abbrev passed : tie.After-walked_from → tie.Else-broken-ne0
 passed c = c.before.before
 
-walked-from-requires : tie.Need-walked-from-requires
+walked-from-requires : tie.Need-walked_from-requires
 walked-from-requires c κs = ((intervals-done c.before, (entry c.before).requires.1), (omega arith, walked_none _ _))
 
-adjustment-refusal-requires : tie.Need-adjustment-refusal-requires
+adjustment-refusal-requires : tie.Need-adjustment_refusal-requires
 adjustment-refusal-requires c κs = (tops-done (passed c.before), intervals-done (passed c.before))
 
-returns-2 : tie.Need-returns-2
+returns-2 : tie.Need-returns-then-walked_from
 returns-2 c =
     let walk = c.before.before in
-    judged_adjustments _ _ _ _ _ (clear (passed walk)) _ walk.Walked-from.ensures.answer c.before.if2.true _ c.adjustment-refusal.ensures
+    judged_adjustments _ _ _ _ _ (clear (passed walk)) _ walk.walked_from.ensures.answer c.if-walked_from.true _ c.adjustment_refusal.ensures
 
-holdings-wrong-requires : tie.Need-holdings-wrong-requires
+holdings-wrong-requires : tie.Need-holdings_wrong-requires
 holdings-wrong-requires c κs = tops-done (passed c.before.before)
 
 -- what the test of 15 says
-abbrev walk : tie.After-holdings-wrong → tie.After-walked-from
+abbrev walk : tie.After-holdings_wrong → tie.After-walked_from
 walk c = c.before.before.before
 
-returns-3 : tie.Need-returns-3
+returns-3 : tie.Need-returns-then-holdings_wrong
 returns-3 c =
     let k = c.before in
-    let w = (walk k).Walked-from.ensures in
+    let w = (walk k).walked_from.ensures in
     judged_holdings _ _ _ _ _ (clear (passed (walk k))) _ w.answer _
-    (k.holdings-wrong.ensures _ _ (w.holds k.before.before.if2.false)) c.if3.true
+    (k.holdings_wrong.ensures _ _ (w.holds k.if-walked_from.false)) c.if-holdings_wrong.true
 
-returns-4 : tie.Need-returns-4
+returns-4 : tie.Need-returns
 returns-4 c =
     let k = c.before in
-    let w = (walk k).Walked-from.ensures in
+    let w = (walk k).walked_from.ensures in
     judged_formed _ _ _ _ _ (clear (passed (walk k))) _ w.answer _
-    (k.holdings-wrong.ensures _ _ (w.holds k.before.before.if2.false)) k.before.before.if2.false c.if3.false
+    (k.holdings_wrong.ensures _ _ (w.holds k.if-walked_from.false)) k.if-walked_from.false c.if-holdings_wrong.false
 
 pub judged_alone_spec : {M : Type 1} → statement M
 judged_alone_spec =

@@ -5,41 +5,41 @@ use Rattle.soundness.specs.Passed.{layout_tests}
 use Rattle.soundness.proofs.layout_refusal.Statement.{statement}
 use Rattle.soundness.proofs.layout_refusal.Tie as tie
 
-tops-wrong-requires : tie.Need-tops-wrong-requires
+tops-wrong-requires : tie.Need-tops_wrong-requires
 tops-wrong-requires c κs = search rules
 
-returns : tie.Need-returns
+returns : tie.Need-returns-then-tops_wrong
 unfolding layout_tests
-returns c = sym (first_here _ _ (sym c.before.tops-wrong.ensures ∙ c.if1.true))
+returns c = sym (first_here _ _ (sym c.tops_wrong.ensures ∙ c.if-tops_wrong.true))
 
-ends-wrong-requires : tie.Need-ends-wrong-requires
+ends-wrong-requires : tie.Need-ends_wrong-requires
 ends-wrong-requires c κs = search rules
 
-returns-2 : tie.Need-returns-2
+returns-2 : tie.Need-returns-then-ends_wrong
 unfolding layout_tests
 returns-2 c =
     sym
-    (first_skip _ _ (sym c.before.before.before.tops-wrong.ensures ∙ c.before.before.if1.false)
-    ∙ first_here _ _ (sym c.before.ends-wrong.ensures ∙ c.if2.true))
+    (first_skip _ _ (sym c.tops_wrong.ensures ∙ c.if-tops_wrong.false)
+    ∙ first_here _ _ (sym c.ends_wrong.ensures ∙ c.if-ends_wrong.true))
 
-blocks-wrong-requires : tie.Need-blocks-wrong-requires
+blocks-wrong-requires : tie.Need-blocks_wrong-requires
 blocks-wrong-requires c κs = search rules
 
-returns-3 : tie.Need-returns-3
+returns-3 : tie.Need-returns-then-blocks_wrong
 unfolding layout_tests
 returns-3 c =
     sym
-    (first_skip _ _ (sym c.before.before.before.before.before.tops-wrong.ensures ∙ c.before.before.before.before.if1.false)
-    ∙ first_skip _ _ (sym c.before.before.before.ends-wrong.ensures ∙ c.before.before.if2.false)
-    ∙ first_here _ _ (sym c.before.blocks-wrong.ensures ∙ c.if3.true))
+    (first_skip _ _ (sym c.tops_wrong.ensures ∙ c.if-tops_wrong.false)
+    ∙ first_skip _ _ (sym c.ends_wrong.ensures ∙ c.if-ends_wrong.false)
+    ∙ first_here _ _ (sym c.blocks_wrong.ensures ∙ c.if-blocks_wrong.true))
 
-returns-4 : tie.Need-returns-4
+returns-4 : tie.Need-returns
 unfolding layout_tests
 returns-4 c =
     sym
-    (first_skip _ _ (sym c.before.before.before.before.before.tops-wrong.ensures ∙ c.before.before.before.before.if1.false)
-    ∙ first_skip _ _ (sym c.before.before.before.ends-wrong.ensures ∙ c.before.before.if2.false)
-    ∙ first_skip _ _ (sym c.before.blocks-wrong.ensures ∙ c.if3.false)
+    (first_skip _ _ (sym c.tops_wrong.ensures ∙ c.if-tops_wrong.false)
+    ∙ first_skip _ _ (sym c.ends_wrong.ensures ∙ c.if-ends_wrong.false)
+    ∙ first_skip _ _ (sym c.blocks_wrong.ensures ∙ c.if-blocks_wrong.false)
     ∙ first_none)
 
 pub layout_refusal_spec : {M : Type 1} → statement M

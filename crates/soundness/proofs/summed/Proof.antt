@@ -10,80 +10,80 @@ use Rattle.soundness.proofs.summed.Tie as tie
 use Rattle.soundness.proofs.summed.Reads as reads
 use Rattle.soundness.proofs.summed.Lts as lts
 
-abbrev invariant-loop : tie.invariant-loop
+abbrev invariant-loop : tie.invariant-loop-i
 invariant-loop h ends blocks sums₀ start₀ i₀ sums start i =
     (i ≤ h.interval_count) × Sums h (arrays [] ends blocks []) i start sums
 
-abbrev decreases-loop : tie.decreases-loop
+abbrev decreases-loop : tie.decreases-loop-i
 decreases-loop h ends blocks sums₀ start₀ i₀ sums start i = h.interval_count - i
 
-loop-holds : tie.Need-loop-init invariant-loop decreases-loop
+loop-holds : tie.Need-loop-i-init invariant-loop decreases-loop
 loop-holds c = (omega arith, sums_none _ _)
 
-cast-if1 : tie.Need-overflow-cast-if1 invariant-loop decreases-loop
+cast-if1 : tie.Need-overflow_cast-h invariant-loop decreases-loop
 cast-if1 c = omega arith
 
-mul-end : tie.Need-overflow-mul-end invariant-loop decreases-loop
+mul-end : tie.Need-offset_bounds-ends-i invariant-loop decreases-loop
 mul-end c = omega arith
 
-shared-slice-read-end : tie.Need-shared-slice-read-end invariant-loop decreases-loop
+shared-slice-read-end : tie.Need-bounds-ends-i invariant-loop decreases-loop
 shared-slice-read-end c = omega arith
 
-mul-block : tie.Need-overflow-mul-block invariant-loop decreases-loop
+mul-block : tie.Need-offset_bounds-blocks-i invariant-loop decreases-loop
 mul-block c = omega arith
 
-shared-slice-read-block : tie.Need-shared-slice-read-block invariant-loop decreases-loop
+shared-slice-read-block : tie.Need-bounds-blocks-i invariant-loop decreases-loop
 shared-slice-read-block c = omega arith
 
 here
-    : (c : tie.Then1 invariant-loop decreases-loop)
+    : (c : tie.In-loop-i invariant-loop decreases-loop)
     → Turn
-    c.before.before.before.args.ends.now
-    c.before.before.before.args.blocks.now
-    c.before.before.loop.i
-    c.before.before.loop.start
-    c.before.before.loop.sums
-here c = turn _ [] _ _ [] c.before.before.before.requires _ _ _ c.before.before.loop.invariant.1 (omega arith)
+    c.args.ends.now
+    c.args.blocks.now
+    c.loop-i.i
+    c.loop-i.start
+    c.loop-i.sums
+here c = turn _ [] _ _ [] c.requires _ _ _ c.loop-i.invariant.1 (omega arith)
 
-cast-block : tie.Need-overflow-cast-block invariant-loop decreases-loop
+cast-block : tie.Need-overflow_cast-block invariant-loop decreases-loop
 cast-block c = let t = here c.before.before in omega arith
 
-sub_sums : tie.Need-overflow-sub-sums invariant-loop decreases-loop
+sub_sums : tie.Need-overflow_sub-sums invariant-loop decreases-loop
 sub_sums c = let t = here c.before.before in omega arith
 
-mul-sums : tie.Need-overflow-mul-sums invariant-loop decreases-loop
+mul-sums : tie.Need-offset_bounds-sums-block invariant-loop decreases-loop
 mul-sums c = let t = here c.before.before in omega arith
 
-array-read-sums : tie.Need-array-read-sums invariant-loop decreases-loop
+array-read-sums : tie.Need-bounds-sums-block invariant-loop decreases-loop
 array-read-sums c = let t = here c.before.before in omega arith
 
-add-sums : tie.Need-overflow-add-sums invariant-loop decreases-loop
+add-sums : tie.Need-overflow_add-sums invariant-loop decreases-loop
 add-sums c =
     let t = here c.before.before in
-    omega (arith, c.before.shared-slice-known.given c.before.before.before.before.loop.i)
+    omega (arith, c.shared_slice_known-1.given c.loop-i.i)
 
-array-write-sums : tie.Need-array-write-sums invariant-loop decreases-loop
+array-write-sums : tie.Need-bounds-sums-block-in-loop-i invariant-loop decreases-loop
 array-write-sums c = let t = here c.before.before in omega arith
 
-add-i : tie.Need-overflow-add-i invariant-loop decreases-loop
+add-i : tie.Need-overflow_add-i invariant-loop decreases-loop
 add-i c = omega arith
 
-loop-less : tie.Need-loop-smaller invariant-loop decreases-loop
+loop-less : tie.Need-loop-i-smaller invariant-loop decreases-loop
 loop-less c = omega arith
 
-loop-again : tie.Need-loop-preserved invariant-loop decreases-loop
+loop-again : tie.Need-loop-i-preserved invariant-loop decreases-loop
 loop-again c = (
   omega arith,
-  turned _ [] _ _ [] c.before.before.before.before.before.requires _ _ _ c.before.before.before.before.loop.invariant.1 (omega arith),
+  turned _ [] _ _ [] c.requires _ _ _ c.loop-i.invariant.1 (omega arith),
 )
 
 returns : tie.Need-returns invariant-loop decreases-loop
 returns c =
-    let same : c.before.before.loop.i ≡ c.before.before.before.args.h.interval_count = omega arith in
-    let sums = c.before.before.loop.invariant.1 in
+    let same : c.loop-i.i ≡ c.args.h.interval_count = omega arith in
+    let sums = c.loop-i.invariant.1 in
     record {
       cell = λ j l.
-          sums.cell j l ∙ ap (held _ j) (sums.starts ∙ ap (before _) same ∙ c.before.before.before.requires.last);
+          sums.cell j l ∙ ap (held _ j) (sums.starts ∙ ap (before _) same ∙ c.requires.last);
     }
 
 pub summed_spec : {M : Type 1} → statement M
