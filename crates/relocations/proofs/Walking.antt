@@ -214,7 +214,7 @@ module _
         : (b g : ℕ) → b < g
         → PartsMove g (placing_at a i) (bins (table h a)) (s.bins - bins (table h a)) moved start
         (parts_of (plan due start (lent_interval a i) moved).action end (placing_at a i) b g)
-    step_parts = here.1.parts-move (placing_at a i) (bins (table h a)) (s.bins - bins (table h a)) part_here
+    step_parts = here.1.parts_move (placing_at a i) (bins (table h a)) (s.bins - bins (table h a)) part_here
 
     parted_from
         : parted

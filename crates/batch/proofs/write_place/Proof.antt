@@ -9,38 +9,38 @@ use Rattle.model.proofs.Entries.{two_stores}
 use Rattle.batch.proofs.write_place.Statement.{statement}
 use Rattle.batch.proofs.write_place.Tie as tie
 
-slot-by-requires : tie.Need-slot-by-requires
-slot-by-requires c κs = c.before.requires.0
+slot-by-requires : tie.Need-slot_by-slot-requires
+slot-by-requires c κs = c.requires.0
 
-mul-out : tie.Need-overflow-mul-out
+mul-out : tie.Need-overflow_mul-out
 mul-out c = omega arith
 
-mul-out-2 : tie.Need-overflow-mul-out-2
+mul-out-2 : tie.Need-offset_bounds-out-i
 mul-out-2 c = omega arith
 
-slice-write-out : tie.Need-slice-write-out
+slice-write-out : tie.Need-bounds-out-i
 slice-write-out c = omega arith
 
-mul-out-3 : tie.Need-overflow-mul-out-3
+mul-out-3 : tie.Need-overflow_mul-out-2
 mul-out-3 c = omega arith
 
-add-out : tie.Need-overflow-add-out
+add-out : tie.Need-overflow_add-out
 add-out c = omega arith
 
-mul-out-4 : tie.Need-overflow-mul-out-4
+mul-out-4 : tie.Need-offset_bounds-out-i-2
 mul-out-4 c = omega arith
 
-slice-write-out-2 : tie.Need-slice-write-out-2
+slice-write-out-2 : tie.Need-bounds-out-i-2
 slice-write-out-2 c = simp length-set (omega arith)
 
-same_length : tie.Need-same-length
+same_length : tie.Need-shape_of-out
 same_length c = simp length-set
 
 returns : tie.Need-returns
 returns c =
     let start = c.before.before in
-    two_stores start.args.out.now (2 * start.args.i) c.slot-by.result.bin c.slot-by.result.position
-    ∙ ap (λ s. sets start.args.out.now (2 * start.args.i) (s.bin ∷ s.position ∷ [])) c.slot-by.ensures
+    two_stores start.args.out.now (2 * start.args.i) c.slot_by-slot.result.bin c.slot_by-slot.result.position
+    ∙ ap (λ s. sets start.args.out.now (2 * start.args.i) (s.bin ∷ s.position ∷ [])) c.slot_by-slot.ensures
 
 pub write_place_spec : {M : Type 1} → statement M
 write_place_spec =

@@ -21,7 +21,7 @@ use Rattle.expansion_count.proofs.count_pieces.Tie as tie
 abbrev gains : List ℕ → List ℕ → ℕ → ℕ
 gains olds dues j = min 1 (get_or dues j 0 - get_or olds j 0)
 
-abbrev invariant-loop : tie.invariant-loop
+abbrev invariant-loop : tie.invariant-loop-j
 invariant-loop last olds dues count gaining₀ j₀ gaining j =
     (j ≤ count)
     × (gaining ≤ j)
@@ -30,10 +30,10 @@ invariant-loop last olds dues count gaining₀ j₀ gaining j =
     → (j ≤ last → gaining + length (pieces_of t s 0 j (count - j)) ≡ length (pieces_of t s 0 0 count))
     × (last < j → gaining + length (pieces_of t s 0 j (count - j)) ≡ length (pieces_of t s 0 0 count) + gains olds dues last))
 
-abbrev decreases-loop : tie.decreases-loop
+abbrev decreases-loop : tie.decreases-loop-j
 decreases-loop last olds dues count gaining₀ j₀ gaining j = count - j
 
-loop-holds : tie.Need-loop-init invariant-loop decreases-loop
+loop-holds : tie.Need-loop-j-init invariant-loop decreases-loop
 loop-holds c = (
   omega arith,
   omega arith,
@@ -43,16 +43,16 @@ loop-holds c = (
 
 -- a turn, in which k is 1 if block j gains, else 0
 step
-    : (c : tie.At-loop invariant-loop decreases-loop) (k : ℕ) → c.loop.j < c.before.args.count
-    → k ≡ gains c.before.args.olds.now c.before.args.dues.now c.loop.j
-    → invariant-loop c.before.args.last c.before.args.olds.now c.before.args.dues.now c.before.args.count 0 0
-    (c.loop.gaining + k) (c.loop.j + 1)
+    : (c : tie.At-loop-j invariant-loop decreases-loop) (k : ℕ) → c.loop-j.j < c.args.count
+    → k ≡ gains c.args.olds.now c.args.dues.now c.loop-j.j
+    → invariant-loop c.args.last c.args.olds.now c.args.dues.now c.args.count 0 0
+    (c.loop-j.gaining + k) (c.loop-j.j + 1)
 step c k l e =
-    let olds = c.before.args.olds.now in
-    let dues = c.before.args.dues.now in
-    let last = c.before.args.last in
-    let j = c.loop.j in
-    let inv = c.loop.invariant in (
+    let olds = c.args.olds.now in
+    let dues = c.args.dues.now in
+    let last = c.args.last in
+    let j = c.loop-j.j in
+    let inv = c.loop-j.invariant in (
       omega arith,
       omega arith,
       λ q. ⊎_elim (λ o. omega (arith, ap (gains olds dues) o)) (λ n. omega (arith, inv.2 (less j last q n))) (equal_or j last),
@@ -64,12 +64,12 @@ step c k l e =
               arith,
               ap (gains olds dues) o,
               (inv.3 t s shares).0 (omega arith),
-              count_last shares j _ l c.before.requires.1 o,
+              count_last shares j _ l c.requires.1 o,
             ),
           ))
           (λ n. (
-            λ q. omega (arith, (inv.3 t s shares).0 (omega arith), count_other shares j _ l c.before.requires.1 n),
-            λ q. omega (arith, (inv.3 t s shares).1 (less j last q n), count_other shares j _ l c.before.requires.1 n),
+            λ q. omega (arith, (inv.3 t s shares).0 (omega arith), count_other shares j _ l c.requires.1 n),
+            λ q. omega (arith, (inv.3 t s shares).1 (less j last q n), count_other shares j _ l c.requires.1 n),
           ))
           (equal_or j last),
     )
@@ -77,51 +77,51 @@ step c k l e =
     less : (j last : ℕ) → last < j + 1 → (j ≡ last → ⊥) → last < j
     less j last q n = ⊎_elim (λ l. l) (λ l. absurd (n (omega arith))) (below_or last j)
 
-mul-gained : tie.Need-overflow-mul-gained invariant-loop decreases-loop
+mul-gained : tie.Need-offset_bounds-dues-j invariant-loop decreases-loop
 mul-gained c = omega arith
 
-element-copy-out-gained : tie.Need-element-copy-out-gained invariant-loop decreases-loop
+element-copy-out-gained : tie.Need-bounds-dues-j invariant-loop decreases-loop
 element-copy-out-gained c = omega arith
 
-mul-gained-2 : tie.Need-overflow-mul-gained-2 invariant-loop decreases-loop
+mul-gained-2 : tie.Need-offset_bounds-olds-j invariant-loop decreases-loop
 mul-gained-2 c = omega arith
 
-element-copy-out-gained-2 : tie.Need-element-copy-out-gained-2 invariant-loop decreases-loop
+element-copy-out-gained-2 : tie.Need-bounds-olds-j invariant-loop decreases-loop
 element-copy-out-gained-2 c = omega arith
 
-sub-gained : tie.Need-overflow-sub-gained invariant-loop decreases-loop
-sub-gained c = c.before.before.before.before.requires.2 _ (omega arith)
+sub-gained : tie.Need-overflow_sub-gained invariant-loop decreases-loop
+sub-gained c = c.requires.2 _ (omega arith)
 
-add-j : tie.Need-overflow-add-j invariant-loop decreases-loop
+add-j : tie.Need-overflow_add-j invariant-loop decreases-loop
 add-j c = omega arith
 
-add-gaining : tie.Need-overflow-add-gaining invariant-loop decreases-loop
+add-gaining : tie.Need-overflow_add-gaining invariant-loop decreases-loop
 add-gaining c = omega arith
 
-loop-less : tie.Need-loop-smaller invariant-loop decreases-loop
+loop-less : tie.Need-loop-j-smaller-then-gained-ne0 invariant-loop decreases-loop
 loop-less c = omega arith
 
-loop-again : tie.Need-loop-preserved invariant-loop decreases-loop
-loop-again c = step c.before.before.before.before 1 (omega arith) (sym (some_gained _ c.if1.true))
+loop-again : tie.Need-loop-j-preserved-then-gained-ne0 invariant-loop decreases-loop
+loop-again c = step c.before.before.before.before.before.before 1 (omega arith) (sym (some_gained _ c.if-gained-ne0.true))
 
-loop-less-2 : tie.Need-loop-smaller-2 invariant-loop decreases-loop
+loop-less-2 : tie.Need-loop-j-smaller invariant-loop decreases-loop
 loop-less-2 c = omega arith
 
-loop-again-2 : tie.Need-loop-preserved-2 invariant-loop decreases-loop
+loop-again-2 : tie.Need-loop-j-preserved invariant-loop decreases-loop
 loop-again-2 c =
-    let at = c.before.before.before.before in
-    rw (add-zero at.loop.gaining) at (step at 0 (omega arith) (omega (arith, c.if1.false)))
+    let at = c.before.before.before.before.before.before in
+    rw (add-zero at.loop-j.gaining) at (step at 0 (omega arith) (omega (arith, c.if-gained-ne0.false)))
 
 -- all blocks are counted
 total
-    : (c : tie.After-loop invariant-loop decreases-loop) (t : Table) (s : Shape) (b : ℕ)
+    : (c : tie.After-loop-j invariant-loop decreases-loop) (t : Table) (s : Shape) (b : ℕ)
     → let start = c.before.before in Shares t s start.args.last start.args.olds.now start.args.dues.now
-    → c.before.loop.gaining
+    → c.loop-j.gaining
     ≡ length (pieces_of t s b 0 start.args.count) + gains start.args.olds.now start.args.dues.now start.args.last
 unfolding pieces_of
 total c t s b shares =
-    let turn = c.before.loop in
-    let n = c.before.before.args.count in
+    let turn = c.loop-j in
+    let n = c.args.count in
     let none : n - turn.j ≡ 0 = omega arith in
     omega (
       arith,
@@ -132,33 +132,33 @@ total c t s b shares =
 
 -- the last interval's block gains
 last-gains
-    : (c : tie.Then2 invariant-loop decreases-loop)
-    → let start = c.before.before.before.before.before in
+    : (c : tie.Then-dues-last invariant-loop decreases-loop)
+    → let start = c.before.before.before.before.before.before.before in
     gains start.args.olds.now start.args.dues.now start.args.last ≡ 1
 last-gains c =
-    let start = c.before.before.before.before.before in
-    some_gained _ (λ z. c.if2.true (omega (arith, start.requires.2 start.args.last (omega arith))))
+    let start = c.before.before.before.before.before.before.before in
+    some_gained _ (λ z. c.if-dues-last.true (omega (arith, start.requires.2 start.args.last (omega arith))))
 
-mul-if2 : tie.Need-overflow-mul-if2 invariant-loop decreases-loop
+mul-if2 : tie.Need-offset_bounds-dues-last invariant-loop decreases-loop
 mul-if2 c = omega arith
 
-element-copy-out-if2 : tie.Need-element-copy-out-if2 invariant-loop decreases-loop
+element-copy-out-if2 : tie.Need-bounds-dues-last invariant-loop decreases-loop
 element-copy-out-if2 c = omega arith
 
-mul-if2-2 : tie.Need-overflow-mul-if2-2 invariant-loop decreases-loop
+mul-if2-2 : tie.Need-offset_bounds-olds-last invariant-loop decreases-loop
 mul-if2-2 c = omega arith
 
-element-copy-out-if2-2 : tie.Need-element-copy-out-if2-2 invariant-loop decreases-loop
+element-copy-out-if2-2 : tie.Need-bounds-olds-last invariant-loop decreases-loop
 element-copy-out-if2-2 c = omega arith
 
-sub-result : tie.Need-overflow-sub-result invariant-loop decreases-loop
-sub-result c = omega (arith, c.before.before.before.before.loop.invariant.2 (omega arith), last-gains c)
+sub-result : tie.Need-overflow_sub-result invariant-loop decreases-loop
+sub-result c = omega (arith, c.loop-j.invariant.2 (omega arith), last-gains c)
 
-returns : tie.Need-returns invariant-loop decreases-loop
-returns c = (omega arith, λ t s b shares. omega (arith, total c.before.before.before t s b shares, last-gains c))
+returns : tie.Need-returns-then-dues-last invariant-loop decreases-loop
+returns c = (omega arith, λ t s b shares. omega (arith, total c.before.before.before.before.before t s b shares, last-gains c))
 
-returns-2 : tie.Need-returns-2 invariant-loop decreases-loop
-returns-2 c = (omega arith, λ t s b shares. omega (arith, total c.before.before.before t s b shares, c.if2.false))
+returns-2 : tie.Need-returns invariant-loop decreases-loop
+returns-2 c = (omega arith, λ t s b shares. omega (arith, total c.before.before.before.before.before t s b shares, c.if-dues-last.false))
 
 pub count_pieces_spec : {M : Type 1} → statement M
 count_pieces_spec =

@@ -12,20 +12,24 @@ use Rattle.expansion_count.proofs.Bounds.{few_fit}
 use Rattle.expansion_count.proofs.intervals_full.Statement.{statement}
 use Rattle.expansion_count.proofs.intervals_full.Tie as tie
 
-add-if1 : tie.Need-overflow-add-if1
+add-if1 : tie.Need-overflow_add-h
 add-if1 c =
-    let g = c.before.before.before.before.requires.holds in
+    let g = c.requires.holds in
     omega (arith, g.formed.interval_limit, g.counted, (block_limits _ _ (formed_well _ _ g.formed) (accepted _ _ g.asked)).1)
 
-returns : tie.Need-returns
-returns c tops bins g = sym (few_fit _ _ (sizes _ bins) g.formed g.asked (omega (arith, c.if1.true, g.counted)))
+returns : tie.Need-returns-then-h-count-le-MAX_INTERVALS
+returns c tops bins g = sym (few_fit _ _ (sizes _ bins) g.formed g.asked (omega (arith, c.if-h-count-le-MAX_INTERVALS.true, g.counted)))
 
-measure-requires : tie.Need-measure-requires
+measure-requires : tie.Need-measure-intervals-requires
 measure-requires c κs = search rules
 
-returns-2 : tie.Need-returns-2
+returns-2 : tie.Need-returns
 unfolding intervals_full
-returns-2 c tops bins g = ap (ltb max_intervals) (c.measure.ensures tops bins g)
+returns-2 c tops bins g = ap (ltb max_intervals) (c.measure-intervals.ensures tops bins g)
 
 pub intervals_full_spec : {M : Type 1} → statement M
-intervals_full_spec = tie.close (tie.spec add-if1 returns measure-requires returns-2)
+intervals_full_spec = tie.close (tie.spec
+    add-if1
+    returns
+    measure-requires
+    returns-2)

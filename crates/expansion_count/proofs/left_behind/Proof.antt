@@ -6,22 +6,27 @@ use Rattle.expansion_count.specs.Made.{left_behind}
 use Rattle.expansion_count.proofs.left_behind.Statement.{statement}
 use Rattle.expansion_count.proofs.left_behind.Tie as tie
 
-add-if1 : tie.Need-overflow-add-if1
+add-if1 : tie.Need-overflow_add-i
 add-if1 c = search rules
 
-cast-if1 : tie.Need-overflow-cast-if1
+cast-if1 : tie.Need-overflow_cast-h
 cast-if1 c = search rules
 
-returns : tie.Need-returns
+returns : tie.Need-returns-then-i-h
 unfolding left_behind if◌then◌else◌
-returns c = rw (lt-ltb _ _ c.if1.true)
+returns c = rw (lt-ltb _ _ c.if-i-h.true)
 
-sub-result : tie.Need-overflow-sub-result
+sub-result : tie.Need-overflow_sub-result
 sub-result c = search rules
 
-returns-2 : tie.Need-returns-2
+returns-2 : tie.Need-returns
 unfolding left_behind if◌then◌else◌
-returns-2 c = rw (le-ltb _ _ c.before.if1.false)
+returns-2 c = rw (le-ltb _ _ c.if-i-h.false)
 
 pub left_behind_spec : {M : Type 1} → statement M
-left_behind_spec = tie.close (tie.spec add-if1 cast-if1 returns sub-result returns-2)
+left_behind_spec = tie.close (tie.spec
+    add-if1
+    cast-if1
+    returns
+    sub-result
+    returns-2)

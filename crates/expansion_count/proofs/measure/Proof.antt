@@ -10,44 +10,44 @@ use borrow.Author.Rules.{rules}
 use Rattle.expansion_count.proofs.measure.Statement.{statement}
 use Rattle.expansion_count.proofs.measure.Tie as tie
 
-count-drained-requires : tie.Need-count-drained-requires
+count-drained-requires : tie.Need-count_drained-requires
 count-drained-requires c κs =
-    let given = c.before.before.before.before.requires in
+    let given = c.requires in
     record { one = given.one; other = given.other; holds = grows_drains given.holds }
 
-returns : tie.Need-returns
+returns : tie.Need-returns-then-falls
 returns c tops bins g =
-    c.count-drained.ensures tops bins (grows_drains g)
-    ∙ sym (drained_count _ _ _ g.formed g.asked (sym g.falling ∙ c.before.if1.true))
+    c.count_drained.ensures tops bins (grows_drains g)
+    ∙ sym (drained_count _ _ _ g.formed g.asked (sym g.falling ∙ c.if-falls.true))
 
-cast-last : tie.Need-overflow-cast-last
+cast-last : tie.Need-overflow_cast-last
 cast-last c = search rules
 
-sub-last : tie.Need-overflow-sub-last
+sub-last : tie.Need-overflow_sub-last
 sub-last c = search rules
 
-mul-last : tie.Need-overflow-mul-last
+mul-last : tie.Need-offset_bounds-blocks-h
 mul-last c = search rules
 
-shared-slice-read-last : tie.Need-shared-slice-read-last
+shared-slice-read-last : tie.Need-bounds-blocks-h
 shared-slice-read-last c = search rules
 
-count-pieces-requires : tie.Need-count-pieces-requires
+count-pieces-requires : tie.Need-count_pieces-requires
 count-pieces-requires c κs =
-    let given = c.before.before.before.before.before.before.requires.holds in
-    let fills = grows_fills given c.before.before.if1.false in
+    let given = c.requires.holds in
+    let fills = grows_fills given c.if-falls.false in
     (last_below _ _ _ _ _ fills _ given.counted, blocks_few _ _ _ _ _ fills _ given.counted, fills_rise _ _ _ _ _ fills)
 
-add-result : tie.Need-overflow-add-result
+add-result : tie.Need-overflow_add-result
 add-result c = search rules
 
-returns-2 : tie.Need-returns-2
+returns-2 : tie.Need-returns
 returns-2 c tops bins g =
-    let fills = grows_fills g c.before.before.before.before.if1.false in
+    let fills = grows_fills g c.if-falls.false in
     let start = c.before.before.before.before.before.before.before.before in
     let t = lent start.args.h tops start.args.ends.now start.args.blocks.now start.args.adjustments.now in
     let s = sizes start.args.buckets bins in
-    let pieces = c.before.count-pieces.ensures.1 t s (length_to t s) (fills_shares _ _ _ _ _ fills) in
+    let pieces = c.count_pieces.ensures.1 t s (length_to t s) (fills_shares _ _ _ _ _ fills) in
     omega (arith, rw g.counted at pieces, filled_count _ _ _ g.formed g.asked fills.none)
 
 pub measure_spec : {M : Type 1} → statement M

@@ -14,94 +14,94 @@ use Rattle.fields.proofs.Fields.{over_blanks, Ends, ends_none, ends_room, ends_o
 use Rattle.fields.proofs.copy_field.Statement.{statement}
 use Rattle.fields.proofs.copy_field.Tie as tie
 
-abbrev invariant-loop : tie.invariant-loop
+abbrev invariant-loop : tie.invariant-loop-rest
 invariant-loop pairs n out₀ at rest₀ end₀ out rest end =
     (rest < 2 ^ 32) × Ends n (at + 10) end rest out₀ out
 
-abbrev decreases-loop : tie.decreases-loop
+abbrev decreases-loop : tie.decreases-loop-rest
 decreases-loop pairs n out₀ at rest₀ end₀ out rest end = rest
 
 -- with blanks stored there is room for the digits
 room : (at : ℕ) (old out : List ℕ) → at + 10 ≤ length old → out ≡ sets old at (blanks 10) → at + 10 ≤ length out
 room at old out l e = omega (arith, ap length e, length-sets old at (blanks 10))
 
-put-blanks-requires : tie.Need-put-blanks-requires invariant-loop decreases-loop
+put-blanks-requires : tie.Need-put_blanks-requires invariant-loop decreases-loop
 put-blanks-requires c κs = omega arith
 
-add-end : tie.Need-overflow-add-end invariant-loop decreases-loop
+add-end : tie.Need-overflow_add-end invariant-loop decreases-loop
 add-end c = search rules
 
-loop-holds : tie.Need-loop-init invariant-loop decreases-loop
+loop-holds : tie.Need-loop-rest-init invariant-loop decreases-loop
 loop-holds c =
     let start = c.before.before.before.before.before.before in
     (search rules, ends_none start.args.n (start.args.at + 10) _ _ (omega arith))
 
-sub-end : tie.Need-overflow-sub-end invariant-loop decreases-loop
-sub-end c = ends_two c.before.loop.invariant.1 (omega arith) (omega arith)
+sub-end : tie.Need-overflow_sub-end invariant-loop decreases-loop
+sub-end c = ends_two c.loop-rest.invariant.1 (omega arith) (omega arith)
 
-copy-pair-requires : tie.Need-copy-pair-requires invariant-loop decreases-loop
+copy-pair-requires : tie.Need-copy_pair-requires invariant-loop decreases-loop
 copy-pair-requires c κs =
     let start = c.before.before.before.before.before.before.before.before.before in
-    let ends = c.before.before.loop.invariant.1 in
-    let long = room start.args.at start.args.out.now _ start.requires.1 c.before.before.before.before.before.put-blanks.ensures in
+    let ends = c.loop-rest.invariant.1 in
+    let long = room start.args.at start.args.out.now _ start.requires.1 c.put_blanks.ensures in
     (start.requires.0, (omega arith, omega (arith, ends_two ends (omega arith) (omega arith), ends_within ends, ends_length ends, long)))
 
-loop-less : tie.Need-loop-smaller invariant-loop decreases-loop
+loop-less : tie.Need-loop-rest-smaller invariant-loop decreases-loop
 loop-less c = omega arith
 
-loop-again : tie.Need-loop-preserved invariant-loop decreases-loop
+loop-again : tie.Need-loop-rest-preserved invariant-loop decreases-loop
 loop-again c =
-    let ends = c.before.before.before.before.before.loop.invariant.1 in
-    (omega arith, ends_pair ends _ (omega arith) (omega arith) (ends_two ends (omega arith) (omega arith)) c.before.before.copy-pair.ensures)
+    let ends = c.loop-rest.invariant.1 in
+    (omega arith, ends_pair ends _ (omega arith) (omega arith) (ends_two ends (omega arith) (omega arith)) c.copy_pair.ensures)
 
-add-out : tie.Need-overflow-add-out invariant-loop decreases-loop
+add-out : tie.Need-overflow_add-out invariant-loop decreases-loop
 add-out c = omega arith
 
-cast-out : tie.Need-overflow-cast-out invariant-loop decreases-loop
+cast-out : tie.Need-overflow_cast-out invariant-loop decreases-loop
 cast-out c = omega arith
 
-sub_out : tie.Need-overflow-sub-out invariant-loop decreases-loop
-sub_out c = ends_one c.before.before.loop.invariant.1 (omega arith)
+sub_out : tie.Need-overflow_sub-out invariant-loop decreases-loop
+sub_out c = ends_one c.loop-rest.invariant.1 (omega arith)
 
-slice-write-out : tie.Need-slice-write-out invariant-loop decreases-loop
+slice-write-out : tie.Need-bounds-out-end invariant-loop decreases-loop
 slice-write-out c =
     let start = c.before.before.before.before.before.before.before.before.before in
-    let ends = c.before.before.loop.invariant.1 in
-    let long = room start.args.at start.args.out.now _ start.requires.1 c.before.before.before.before.before.put-blanks.ensures in
+    let ends = c.loop-rest.invariant.1 in
+    let long = room start.args.at start.args.out.now _ start.requires.1 c.put_blanks.ensures in
     omega (arith, ends_one ends (omega arith), ends_within ends, ends_length ends, long)
 
-returns : tie.Need-returns invariant-loop decreases-loop
+returns : tie.Need-returns-then-rest-lt10 invariant-loop decreases-loop
 returns c =
     let start = c.before.before.before.before.before.before.before.before.before in
-    let turn = c.before.before.loop in
-    let one = decimal_one turn.rest c.if1.true in
-    over_blanks start.args.n start.args.at start.args.out.now _ _ c.before.before.before.before.before.put-blanks.ensures
+    let turn = c.loop-rest in
+    let one = decimal_one turn.rest c.if-rest-lt10.true in
+    over_blanks start.args.n start.args.at start.args.out.now _ _ c.put_blanks.ensures
     (ends_all turn.invariant.1 _ (ends_room turn.invariant.1 (omega arith)) (rw one refl))
 
-same_length : tie.Need-same-length invariant-loop decreases-loop
+same_length : tie.Need-shape_of-out-then-rest-lt10 invariant-loop decreases-loop
 same_length c =
     let start = c.before.before.before.before.before.before.before.before.before in
     ap length (returns c) ∙ length-sets start.args.out.now start.args.at (field start.args.n)
 
-sub-copy-pair : tie.Need-overflow-sub-copy-pair invariant-loop decreases-loop
-sub-copy-pair c = ends_two c.before.before.before.loop.invariant.1 (omega arith) (omega arith)
+sub-copy-pair : tie.Need-overflow_sub-end-2 invariant-loop decreases-loop
+sub-copy-pair c = ends_two c.loop-rest.invariant.1 (omega arith) (omega arith)
 
-copy-pair-requires-2 : tie.Need-copy-pair-requires-2 invariant-loop decreases-loop
+copy-pair-requires-2 : tie.Need-copy_pair-requires-2 invariant-loop decreases-loop
 copy-pair-requires-2 c κs =
     let start = c.before.before.before.before.before.before.before.before.before.before in
-    let ends = c.before.before.before.loop.invariant.1 in
-    let long = room start.args.at start.args.out.now _ start.requires.1 c.before.before.before.before.before.before.put-blanks.ensures in
+    let ends = c.loop-rest.invariant.1 in
+    let long = room start.args.at start.args.out.now _ start.requires.1 c.put_blanks.ensures in
     (start.requires.0, (omega arith, omega (arith, ends_two ends (omega arith) (omega arith), ends_within ends, ends_length ends, long)))
 
-returns-2 : tie.Need-returns-2 invariant-loop decreases-loop
+returns-2 : tie.Need-returns invariant-loop decreases-loop
 returns-2 c =
     let start = c.before.before.before.before.before.before.before.before.before.before.before.before.before in
-    let turn = c.before.before.before.before.before.before.loop in
+    let turn = c.loop-rest in
     let two = decimal_two turn.rest (omega arith) (omega arith) in
-    over_blanks start.args.n start.args.at start.args.out.now _ _ c.before.before.before.before.before.before.before.before.before.put-blanks.ensures
-    (ends_all turn.invariant.1 _ (ends_room turn.invariant.1 (omega arith)) (rw two c.before.before.copy-pair2.ensures))
+    over_blanks start.args.n start.args.at start.args.out.now _ _ c.put_blanks.ensures
+    (ends_all turn.invariant.1 _ (ends_room turn.invariant.1 (omega arith)) (rw two c.copy_pair-2.ensures))
 
-same-length-2 : tie.Need-same-length-2 invariant-loop decreases-loop
+same-length-2 : tie.Need-shape_of-out invariant-loop decreases-loop
 same-length-2 c =
     let start = c.before.before.before.before.before.before.before.before.before.before.before.before.before in
     ap length (returns-2 c) ∙ length-sets start.args.out.now start.args.at (field start.args.n)

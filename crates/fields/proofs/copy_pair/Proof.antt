@@ -7,31 +7,31 @@ use Rattle.digits.proofs.Stores.{pair_stored}
 use Rattle.fields.proofs.copy_pair.Statement.{statement}
 use Rattle.fields.proofs.copy_pair.Tie as tie
 
-mul-tens : tie.Need-overflow-mul-tens
+mul-tens : tie.Need-overflow_mul-tens
 mul-tens c = search rules
 
-shared-slice-read-tens : tie.Need-shared-slice-read-tens
-shared-slice-read-tens c = omega (arith, pairs_long c.before.args.pairs.now c.before.requires.0)
+shared-slice-read-tens : tie.Need-bounds-pairs-n
+shared-slice-read-tens c = omega (arith, pairs_long c.args.pairs.now c.requires.0)
 
-mul-ones : tie.Need-overflow-mul-ones
+mul-ones : tie.Need-overflow_mul-ones
 mul-ones c = search rules
 
-add-ones : tie.Need-overflow-add-ones
+add-ones : tie.Need-overflow_add-ones
 add-ones c = search rules
 
-shared-slice-read-ones : tie.Need-shared-slice-read-ones
-shared-slice-read-ones c = omega (arith, pairs_long c.before.before.args.pairs.now c.before.before.requires.0)
+shared-slice-read-ones : tie.Need-bounds-pairs-n-2
+shared-slice-read-ones c = omega (arith, pairs_long c.args.pairs.now c.requires.0)
 
-slice-write-out : tie.Need-slice-write-out
+slice-write-out : tie.Need-bounds-out-at
 slice-write-out c = search rules
 
-add-out : tie.Need-overflow-add-out
+add-out : tie.Need-overflow_add-out
 add-out c = search rules
 
-slice-write-out-2 : tie.Need-slice-write-out-2
+slice-write-out-2 : tie.Need-bounds-out-at-2
 slice-write-out-2 c = simp length-set (omega arith)
 
-same_length : tie.Need-same-length
+same_length : tie.Need-shape_of-out
 same_length c = search rules
 
 returns : tie.Need-returns

@@ -5,49 +5,49 @@ use Rattle.fields.proofs.Fields.{over_blanks, pair_before}
 use Rattle.fields.proofs.put_short.Statement.{statement}
 use Rattle.fields.proofs.put_short.Tie as tie
 
-put-blanks-requires : tie.Need-put-blanks-requires
+put-blanks-requires : tie.Need-put_blanks-requires
 put-blanks-requires c κs = search rules
 
-add-put-up-to : tie.Need-overflow-add-put-up-to
+add-put-up-to : tie.Need-overflow_add-at
 add-put-up-to c = search rules
 
-put-up-to-requires : tie.Need-put-up-to-requires
+put-up-to-requires : tie.Need-put_up_to-requires
 put-up-to-requires c κs = search rules
 
-same_length : tie.Need-same-length
+same_length : tie.Need-shape_of-out-then-n-lt100
 same_length c = search rules
 
-returns : tie.Need-returns
+returns : tie.Need-returns-then-n-lt100
 returns c =
     let start = c.before.before.before.before.before.before.before.before.before.before in
     over_blanks start.args.n start.args.at start.args.out.now _ _
-    c.before.before.before.before.before.before.before.put-blanks.ensures
-    c.before.before.put-up-to.ensures
+    c.put_blanks.ensures
+    c.put_up_to.ensures
 
-add-put-pair : tie.Need-overflow-add-put-pair
+add-put-pair : tie.Need-overflow_add-at-2
 add-put-pair c = search rules
 
-put-pair-requires : tie.Need-put-pair-requires
+put-pair-requires : tie.Need-put_pair-requires
 put-pair-requires c κs = search rules
 
-add-put-up-to-2 : tie.Need-overflow-add-put-up-to-2
+add-put-up-to-2 : tie.Need-overflow_add-at-3
 add-put-up-to-2 c = search rules
 
-put-up-to-requires-2 : tie.Need-put-up-to-requires-2
+put-up-to-requires-2 : tie.Need-put_up_to-requires-2
 put-up-to-requires-2 c κs = search rules
 
-same-length-2 : tie.Need-same-length-2
+same-length-2 : tie.Need-shape_of-out
 same-length-2 c = search rules
 
-returns-2 : tie.Need-returns-2
+returns-2 : tie.Need-returns
 returns-2 c =
     let start = c.before.before.before.before.before.before.before.before.before.before.before.before.before.before in
     let n = start.args.n in
     over_blanks n start.args.at start.args.out.now _ _
-    c.before.before.before.before.before.before.before.before.before.before.before.put-blanks.ensures
+    c.put_blanks.ensures
     (pair_before n start.args.at _ _ _ (omega arith) (omega arith)
-    c.before.before.before.before.before.before.put-pair.ensures
-    c.before.before.put-up-to2.ensures)
+    c.put_pair.ensures
+    c.put_up_to-2.ensures)
 
 pub put_short_spec : {M : Type 1} → statement M
 put_short_spec =

@@ -12,97 +12,97 @@ use Rattle.file_rules.proofs.Adjusted.{Adjusted, Turn, adjusted_none, adjusted_t
 use Rattle.file_rules.proofs.adjust.Statement.{statement}
 use Rattle.file_rules.proofs.adjust.Tie as tie
 
-abbrev invariant-loop : tie.invariant-loop
+abbrev invariant-loop : tie.invariant-loop-j
 invariant-loop f h out₀ sums₀ count pairs start₀ j₀ out sums start j =
     (j ≤ pairs)
     × Adjusted h (file_arrays f h).tops (file_arrays f h).ends (file_arrays f h).blocks (2 * j) start sums out₀ out
 
-abbrev decreases-loop : tie.decreases-loop
+abbrev decreases-loop : tie.decreases-loop-j
 decreases-loop f h out₀ sums₀ count pairs start₀ j₀ out sums start j = pairs - j
 
-cast-count : tie.Need-overflow-cast-count invariant-loop decreases-loop
+cast-count : tie.Need-overflow_cast-count invariant-loop decreases-loop
 cast-count c = omega arith
 
-loop-holds : tie.Need-loop-init invariant-loop decreases-loop
-loop-holds c = (omega arith, rw c.before.before.before.requires.0.2 (adjusted_none _ _ _ _ _))
+loop-holds : tie.Need-loop-j-init invariant-loop decreases-loop
+loop-holds c = (omega arith, rw c.requires.0.2 (adjusted_none _ _ _ _ _))
 
-mul-i : tie.Need-overflow-mul-i invariant-loop decreases-loop
+mul-i : tie.Need-overflow_mul-i invariant-loop decreases-loop
 mul-i c = omega arith
 
-end-at-requires : tie.Need-end-at-requires invariant-loop decreases-loop
-end-at-requires c κs = (c.before.before.before.before.before.requires.0.0, omega arith)
+end-at-requires : tie.Need-end_at-middle-requires invariant-loop decreases-loop
+end-at-requires c κs = (c.requires.0.0, omega arith)
 
-add-end-at : tie.Need-overflow-add-end-at invariant-loop decreases-loop
+add-end-at : tie.Need-overflow_add-i invariant-loop decreases-loop
 add-end-at c = omega arith
 
-end-at-requires-2 : tie.Need-end-at-requires-2 invariant-loop decreases-loop
-end-at-requires-2 c κs = (c.before.before.before.before.before.before.requires.0.0, omega arith)
+end-at-requires-2 : tie.Need-end_at-end-requires invariant-loop decreases-loop
+end-at-requires-2 c κs = (c.requires.0.0, omega arith)
 
-block-at-requires : tie.Need-block-at-requires invariant-loop decreases-loop
-block-at-requires c κs = (c.before.before.before.before.before.before.before.requires.0.0, omega arith)
+block-at-requires : tie.Need-block_at-block-requires invariant-loop decreases-loop
+block-at-requires c κs = (c.requires.0.0, omega arith)
 
-add-block-at : tie.Need-overflow-add-block-at invariant-loop decreases-loop
+add-block-at : tie.Need-overflow_add-i-in-loop-j invariant-loop decreases-loop
 add-block-at c = omega arith
 
-block-at-requires-2 : tie.Need-block-at-requires-2 invariant-loop decreases-loop
-block-at-requires-2 c κs = (c.before.before.before.before.before.before.before.before.requires.0.0, omega arith)
+block-at-requires-2 : tie.Need-block_at-other-requires invariant-loop decreases-loop
+block-at-requires-2 c κs = (c.requires.0.0, omega arith)
 
 -- the loop's head and the function's entry, from inside a turn
-abbrev head : tie.After-block-at invariant-loop decreases-loop → tie.At-loop invariant-loop decreases-loop
+abbrev head : tie.After-block_at-block invariant-loop decreases-loop → tie.At-loop-j invariant-loop decreases-loop
 head c = c.before.before.before.before
 
-abbrev entry : tie.At-loop invariant-loop decreases-loop → tie.Start invariant-loop decreases-loop
+abbrev entry : tie.At-loop-j invariant-loop decreases-loop → tie.Start invariant-loop decreases-loop
 entry c = c.before.before.before.before
 
 -- what is known at the first of a turn's two intervals
 here
-    : (c : tie.After-block-at invariant-loop decreases-loop)
-    → let l = (head c).loop in Turn l.start c.block_at.result c.before.before.end-at.result l.sums
+    : (c : tie.After-block_at-block invariant-loop decreases-loop)
+    → let l = (head c).loop-j in Turn l.start c.block_at-block.result c.end_at-middle.result l.sums
 here c =
-    adjusted_turn _ _ _ _ (entry (head c)).pre.1 _ _ _ _ _ (head c).loop.invariant.1 _ _
-    c.block_at.ensures c.before.before.end-at.ensures (omega arith)
+    adjusted_turn _ _ _ _ (entry (head c)).requires.1 _ _ _ _ _ (head c).loop-j.invariant.1 _ _
+    c.block_at-block.ensures c.end_at-middle.ensures (omega arith)
 
-cast-block : tie.Need-overflow-cast-block invariant-loop decreases-loop
+cast-block : tie.Need-overflow_cast-block invariant-loop decreases-loop
 cast-block c = let t = here c in omega arith
 
-cast-other : tie.Need-overflow-cast-other invariant-loop decreases-loop
+cast-other : tie.Need-overflow_cast-other invariant-loop decreases-loop
 cast-other c = omega arith
 
-mul-adjustment : tie.Need-overflow-mul-adjustment invariant-loop decreases-loop
+mul-adjustment : tie.Need-offset_bounds-sums-block invariant-loop decreases-loop
 mul-adjustment c = let t = here c.before in omega arith
 
-element-copy-out-adjustment : tie.Need-element-copy-out-adjustment invariant-loop decreases-loop
-element-copy-out-adjustment c = let t = here c.before in omega arith
+element-copy-out-adjustment : tie.Need-bounds-sums-block invariant-loop decreases-loop
+element-copy-out-adjustment c = let t = here c.before.before in omega arith
 
-sub-adjustment : tie.Need-overflow-sub-adjustment invariant-loop decreases-loop
-sub-adjustment c = let t = here c.before.before in omega arith
+sub-adjustment : tie.Need-overflow_sub-adjustment invariant-loop decreases-loop
+sub-adjustment c = let t = here c.before.before.before in omega arith
 
 -- after it: its adjustment, and the sums
-abbrev first : tie.After-block-at invariant-loop decreases-loop → ℕ
-first c = let l = (head c).loop in l.start - get_or l.sums c.block_at.result 0
+abbrev first : tie.After-block_at-block invariant-loop decreases-loop → ℕ
+first c = let l = (head c).loop-j in l.start - get_or l.sums c.block_at-block.result 0
 
-abbrev then : tie.After-block-at invariant-loop decreases-loop → List ℕ
-then c = set (head c).loop.sums c.block_at.result (c.before.before.end-at.result - first c)
+abbrev then : tie.After-block_at-block invariant-loop decreases-loop → List ℕ
+then c = set (head c).loop-j.sums c.block_at-block.result (c.end_at-middle.result - first c)
 
 after
-    : (c : tie.After-block-at invariant-loop decreases-loop)
-    → let l = (head c).loop in
+    : (c : tie.After-block_at-block invariant-loop decreases-loop)
+    → let l = (head c).loop-j in
     let a = (entry (head c)).args in
     let file = file_arrays a.f.now a.h in
-    Adjusted a.h file.tops file.ends file.blocks (2 * l.j + 1) c.before.before.end-at.result (then c) a.out.now
+    Adjusted a.h file.tops file.ends file.blocks (2 * l.j + 1) c.end_at-middle.result (then c) a.out.now
     (set l.out (2 * l.j) (first c))
 after c =
     let t = here c in
-    adjusted_next _ _ _ _ (entry (head c)).pre.1 _ _ _ _ _ (head c).loop.invariant.1 _ _
-    c.block_at.ensures c.before.before.end-at.ensures (omega arith) _ _ _ refl (omega arith) (omega arith)
+    adjusted_next _ _ _ _ (entry (head c)).requires.1 _ _ _ _ _ (head c).loop-j.invariant.1 _ _
+    c.block_at-block.ensures c.end_at-middle.ensures (omega arith) _ _ _ refl (omega arith) (omega arith)
 
 second
-    : (c : tie.After-block-at2 invariant-loop decreases-loop)
+    : (c : tie.After-block_at-other invariant-loop decreases-loop)
     → let k = c.before in
-    Turn k.before.before.end-at.result c.block-at2.result k.before.end-at2.result (then k)
+    Turn k.end_at-middle.result c.block_at-other.result k.end_at-end.result (then k)
 second c =
     let k = c.before in
-    adjusted_turn _ _ _ _ (entry (head k)).pre.1 _ _ _ _ _ (after k) _ _ c.block-at2.ensures k.before.end-at2.ensures (omega arith)
+    adjusted_turn _ _ _ _ (entry (head k)).requires.1 _ _ _ _ _ (after k) _ _ c.block_at-other.ensures k.end_at-end.ensures (omega arith)
 
 origin-requires : tie.Need-origin-requires invariant-loop decreases-loop
 origin-requires c κs = search rules
@@ -110,150 +110,150 @@ origin-requires c κs = search rules
 -- its adjustment, by the sums before the first
 other
     : (c : tie.After-origin invariant-loop decreases-loop)
-    → let k = c.before.before in
-    let cell = get_or (head k.before).loop.sums k.block-at2.result 0 in
-    let d = k.before.before.before.end-at.result in
-    (cell ≤ c.origin.result) × (c.origin.result - cell + get_or (then k.before) k.block-at2.result 0 ≡ d)
+    → let k = c.before.before.before in
+    let cell = get_or (head k.before).loop-j.sums k.block_at-other.result 0 in
+    let d = k.end_at-middle.result in
+    (cell ≤ c.origin.result) × (c.origin.result - cell + get_or (then k.before) k.block_at-other.result 0 ≡ d)
 other c =
-    let k = c.before.before in
-    let l = (head k.before).loop in
+    let k = c.before.before.before in
+    let l = (head k.before).loop-j in
     let t = here k.before in
-    second_adjustment l.sums k.before.block_at.result k.block-at2.result l.start k.before.before.before.end-at.result
-    (first k.before) c.origin.result (omega (arith, l.inv.1.held.cells)) c.origin.ensures.0 c.origin.ensures.1
+    second_adjustment l.sums k.block_at-block.result k.block_at-other.result l.start k.end_at-middle.result
+    (first k.before) c.origin.result (omega (arith, l.invariant.1.held.cells)) c.origin.ensures.0 c.origin.ensures.1
     (omega arith) t.later (second k).within
 
-mul_next : tie.Need-overflow-mul-next invariant-loop decreases-loop
-mul_next c = let u = second c.before.before in omega arith
+mul_next : tie.Need-offset_bounds-sums-other invariant-loop decreases-loop
+mul_next c = let u = second c.before.before.before in omega arith
 
-element-copy-out-next : tie.Need-element-copy-out-next invariant-loop decreases-loop
-element-copy-out-next c = let u = second c.before.before in omega arith
+element-copy-out-next : tie.Need-bounds-sums-other invariant-loop decreases-loop
+element-copy-out-next c = let u = second c.before.before.before in omega arith
 
-sub-next : tie.Need-overflow-sub-next invariant-loop decreases-loop
+sub-next : tie.Need-overflow_sub-next invariant-loop decreases-loop
 sub-next c = omega (arith, (other c.before).0)
 
-sub_sums : tie.Need-overflow-sub-sums invariant-loop decreases-loop
-sub_sums c = let t = here c.before.before.before.before in omega arith
+sub_sums : tie.Need-overflow_sub-sums invariant-loop decreases-loop
+sub_sums c = let t = here c.before.before.before.before.before in omega arith
 
-mul-sums : tie.Need-overflow-mul-sums invariant-loop decreases-loop
-mul-sums c = let t = here c.before.before.before.before in omega arith
+mul-sums : tie.Need-offset_bounds-sums-block-in-loop-j invariant-loop decreases-loop
+mul-sums c = let t = here c.before.before.before.before.before in omega arith
 
-element-write-sums : tie.Need-element-write-sums invariant-loop decreases-loop
-element-write-sums c = let t = here c.before.before.before.before in omega arith
+element-write-sums : tie.Need-bounds-sums-block-in-loop-j invariant-loop decreases-loop
+element-write-sums c = let t = here c.before.before.before.before.before in omega arith
 
-sub-sums-2 : tie.Need-overflow-sub-sums-2 invariant-loop decreases-loop
-sub-sums-2 c = let u = second c.before.before.before in omega (arith, (other c.before).1)
+sub-sums-2 : tie.Need-overflow_sub-sums-in-loop-j invariant-loop decreases-loop
+sub-sums-2 c = let u = second c.before.before.before.before in omega (arith, (other c.before).1)
 
-mul-sums-2 : tie.Need-overflow-mul-sums-2 invariant-loop decreases-loop
-mul-sums-2 c = let u = second c.before.before.before in omega arith
+mul-sums-2 : tie.Need-offset_bounds-sums-other-in-loop-j invariant-loop decreases-loop
+mul-sums-2 c = let u = second c.before.before.before.before in omega arith
 
-element-write-sums-2 : tie.Need-element-write-sums-2 invariant-loop decreases-loop
-element-write-sums-2 c = let u = second c.before.before.before in omega arith
+element-write-sums-2 : tie.Need-bounds-sums-other-in-loop-j invariant-loop decreases-loop
+element-write-sums-2 c = let u = second c.before.before.before.before in omega arith
 
 -- the array written to keeps its length
 long
-    : (c : tie.After-next invariant-loop decreases-loop)
-    → let k = head c.before.before.before.before in length k.loop.out ≡ length (entry k).args.out.now
-long c = put_length (head c.before.before.before.before).loop.inv.1.put
+    : (c : tie.After-next-1 invariant-loop decreases-loop)
+    → let k = head c.before.before.before.before.before in length k.loop-j.out ≡ length (entry k).args.out.now
+long c = put_length (head c.before.before.before.before.before).loop-j.invariant.1.put
 
-mul-out : tie.Need-overflow-mul-out invariant-loop decreases-loop
+mul-out : tie.Need-offset_bounds-out-i invariant-loop decreases-loop
 mul-out c = omega (arith, long c)
 
-slice-write-out : tie.Need-slice-write-out invariant-loop decreases-loop
+slice-write-out : tie.Need-bounds-out-i invariant-loop decreases-loop
 slice-write-out c = omega (arith, long c)
 
-add-out : tie.Need-overflow-add-out invariant-loop decreases-loop
+add-out : tie.Need-overflow_add-out invariant-loop decreases-loop
 add-out c = omega arith
 
-mul-out-2 : tie.Need-overflow-mul-out-2 invariant-loop decreases-loop
+mul-out-2 : tie.Need-offset_bounds-out-i-in-loop-j invariant-loop decreases-loop
 mul-out-2 c = omega (arith, long c)
 
-slice-write-out-2 : tie.Need-slice-write-out-2 invariant-loop decreases-loop
+slice-write-out-2 : tie.Need-bounds-out-i-in-loop-j invariant-loop decreases-loop
 slice-write-out-2 c = simp length-set (omega (arith, long c))
 
-add-j : tie.Need-overflow-add-j invariant-loop decreases-loop
+add-j : tie.Need-overflow_add-j invariant-loop decreases-loop
 add-j c = omega arith
 
-loop-less : tie.Need-loop-smaller invariant-loop decreases-loop
+loop-less : tie.Need-loop-j-smaller invariant-loop decreases-loop
 loop-less c = omega arith
 
-loop-again : tie.Need-loop-preserved invariant-loop decreases-loop
+loop-again : tie.Need-loop-j-preserved invariant-loop decreases-loop
 loop-again c =
-    let k = c.before.before.before in
-    let l = (head k.before).loop in
+    let k = c.before.before.before.before in
+    let l = (head k.before).loop-j in
     let u = second k in
     let e = other c.before in
     let two : 2 * (l.j + 1) ≡ 2 * l.j + 1 + 1 = omega arith in (
       omega arith,
       rw two
-          (adjusted_next _ _ _ _ (entry (head k.before)).pre.1 _ _ _ _ _ (after k.before) _ _
-          k.block-at2.ensures k.before.before.end-at2.ensures (omega arith) _ _ _ refl e.1 (omega (arith, e.1))),
+          (adjusted_next _ _ _ _ (entry (head k.before)).requires.1 _ _ _ _ _ (after k.before) _ _
+          k.block_at-other.ensures k.end_at-end.ensures (omega arith) _ _ _ refl e.1 (omega (arith, e.1))),
     )
 
-mul-i-2 : tie.Need-overflow-mul-i-2 invariant-loop decreases-loop
+mul-i-2 : tie.Need-overflow_mul-i-2 invariant-loop decreases-loop
 mul-i-2 c = omega arith
 
-same_length : tie.Need-same-length invariant-loop decreases-loop
-same_length c = put_length c.before.before.loop.invariant.1.put
+same_length : tie.Need-shape_of-out-then-i-count invariant-loop decreases-loop
+same_length c = put_length c.loop-j.invariant.1.put
 
-returns : tie.Need-returns invariant-loop decreases-loop
+returns : tie.Need-returns-then-i-count invariant-loop decreases-loop
 returns c =
     let k = c.before.before in
-    adjusted_all _ _ _ _ (entry k).requires.1 _ _ _ _ _ k.loop.invariant.1 (omega arith) (omega arith)
+    adjusted_all _ _ _ _ (entry k).requires.1 _ _ _ _ _ k.loop-j.invariant.1 (omega arith) (omega arith)
 
-end-at-requires-3 : tie.Need-end-at-requires-3 invariant-loop decreases-loop
-end-at-requires-3 c κs = ((entry c.before.before).pre.0.0, omega arith)
+end-at-requires-3 : tie.Need-end_at-end-requires-2 invariant-loop decreases-loop
+end-at-requires-3 c κs = ((entry c.before.before).requires.0.0, omega arith)
 
-block-at-requires-3 : tie.Need-block-at-requires-3 invariant-loop decreases-loop
-block-at-requires-3 c κs = ((entry c.before.before.before).pre.0.0, omega arith)
+block-at-requires-3 : tie.Need-block_at-block-requires-2 invariant-loop decreases-loop
+block-at-requires-3 c κs = ((entry c.before.before.before).requires.0.0, omega arith)
 
 -- the loop's end, from the last interval, and what is known at it
-abbrev ended : tie.After-block-at3 invariant-loop decreases-loop → tie.At-loop invariant-loop decreases-loop
+abbrev ended : tie.After-block_at-block-2 invariant-loop decreases-loop → tie.At-loop-j invariant-loop decreases-loop
 ended c = c.before.before.before.before
 
 last
-    : (c : tie.After-block-at3 invariant-loop decreases-loop)
-    → let l = (ended c).loop in Turn l.start c.block-at3.result c.before.end-at3.result l.sums
+    : (c : tie.After-block_at-block-2 invariant-loop decreases-loop)
+    → let l = (ended c).loop-j in Turn l.start c.block_at-block-2.result c.end_at-end-2.result l.sums
 last c =
-    adjusted_turn _ _ _ _ (entry (ended c)).pre.1 _ _ _ _ _ (ended c).loop.invariant.1 _ _
-    c.block-at3.ensures c.before.end-at3.ensures (omega arith)
+    adjusted_turn _ _ _ _ (entry (ended c)).requires.1 _ _ _ _ _ (ended c).loop-j.invariant.1 _ _
+    c.block_at-block-2.ensures c.end_at-end-2.ensures (omega arith)
 
-cast-block-2 : tie.Need-overflow-cast-block-2 invariant-loop decreases-loop
+cast-block-2 : tie.Need-overflow_cast-block-2 invariant-loop decreases-loop
 cast-block-2 c = let t = last c in omega arith
 
-mul-last : tie.Need-overflow-mul-last invariant-loop decreases-loop
+mul-last : tie.Need-offset_bounds-sums-block-2 invariant-loop decreases-loop
 mul-last c = let t = last c in omega arith
 
-element-copy-out-last : tie.Need-element-copy-out-last invariant-loop decreases-loop
-element-copy-out-last c = let t = last c in omega arith
+element-copy-out-last : tie.Need-bounds-sums-block-2 invariant-loop decreases-loop
+element-copy-out-last c = let t = last c.before in omega arith
 
-sub-last : tie.Need-overflow-sub-last invariant-loop decreases-loop
-sub-last c = let t = last c.before in omega arith
+sub-last : tie.Need-overflow_sub-last invariant-loop decreases-loop
+sub-last c = let t = last c.before.before in omega arith
 
-sub-sums-3 : tie.Need-overflow-sub-sums-3 invariant-loop decreases-loop
-sub-sums-3 c = let t = last c.before in omega arith
+sub-sums-3 : tie.Need-overflow_sub-sums-2 invariant-loop decreases-loop
+sub-sums-3 c = let t = last c.before.before in omega arith
 
-mul-sums-3 : tie.Need-overflow-mul-sums-3 invariant-loop decreases-loop
-mul-sums-3 c = let t = last c.before in omega arith
+mul-sums-3 : tie.Need-offset_bounds-sums-block-3 invariant-loop decreases-loop
+mul-sums-3 c = let t = last c.before.before in omega arith
 
-element-write-sums-3 : tie.Need-element-write-sums-3 invariant-loop decreases-loop
-element-write-sums-3 c = let t = last c.before in omega arith
+element-write-sums-3 : tie.Need-bounds-sums-block-3 invariant-loop decreases-loop
+element-write-sums-3 c = let t = last c.before.before in omega arith
 
-mul-out-3 : tie.Need-overflow-mul-out-3 invariant-loop decreases-loop
-mul-out-3 c = omega (arith, put_length (ended c.before).loop.inv.1.put)
+mul-out-3 : tie.Need-offset_bounds-out-i-2 invariant-loop decreases-loop
+mul-out-3 c = omega (arith, put_length (ended c.before.before).loop-j.invariant.1.put)
 
-slice-write-out-3 : tie.Need-slice-write-out-3 invariant-loop decreases-loop
-slice-write-out-3 c = omega (arith, put_length (ended c.before).loop.inv.1.put)
+slice-write-out-3 : tie.Need-bounds-out-i-2 invariant-loop decreases-loop
+slice-write-out-3 c = omega (arith, put_length (ended c.before.before).loop-j.invariant.1.put)
 
-same-length-2 : tie.Need-same-length-2 invariant-loop decreases-loop
-same-length-2 c = simp length-set (put_length (ended c.before).loop.inv.1.put)
+same-length-2 : tie.Need-shape_of-out invariant-loop decreases-loop
+same-length-2 c = simp length-set (put_length (ended c.before.before).loop-j.invariant.1.put)
 
-returns-2 : tie.Need-returns-2 invariant-loop decreases-loop
+returns-2 : tie.Need-returns invariant-loop decreases-loop
 returns-2 c =
-    let k = ended c.before in
-    let t = last c.before in
-    adjusted_all _ _ _ _ (entry k).pre.1 _ _ _ _ _
-    (adjusted_next _ _ _ _ (entry k).pre.1 _ _ _ _ _ k.loop.inv.1 _ _
-    c.before.block-at3.ensures c.before.before.end-at3.ensures (omega arith) _ _ _ refl (omega arith) (omega arith))
+    let k = ended c.before.before in
+    let t = last c.before.before in
+    adjusted_all _ _ _ _ (entry k).requires.1 _ _ _ _ _
+    (adjusted_next _ _ _ _ (entry k).requires.1 _ _ _ _ _ k.loop-j.invariant.1 _ _
+    c.block_at-block-2.ensures c.end_at-end-2.ensures (omega arith) _ _ _ refl (omega arith) (omega arith))
     (omega arith) (omega arith)
 
 pub adjust_spec : {M : Type 1} → statement M

@@ -6,22 +6,22 @@ use borrow.Author.Rules.{rules}
 use Rattle.file_rules.proofs.block_at.Statement.{statement}
 use Rattle.file_rules.proofs.block_at.Tie as tie
 
-cast-number-at : tie.Need-overflow-cast-number-at
+cast-number-at : tie.Need-overflow_cast-h
 cast-number-at c = search rules
 
-add-number-at : tie.Need-overflow-add-number-at
+add-number-at : tie.Need-overflow_add-h
 add-number-at c = search rules
 
-cast-number-at-2 : tie.Need-overflow-cast-number-at-2
+cast-number-at-2 : tie.Need-overflow_cast-h-2
 cast-number-at-2 c = search rules
 
-add-number-at-2 : tie.Need-overflow-add-number-at-2
+add-number-at-2 : tie.Need-overflow_add-h-2
 add-number-at-2 c = search rules
 
-add-number-at-3 : tie.Need-overflow-add-number-at-3
+add-number-at-3 : tie.Need-overflow_add-h-3
 add-number-at-3 c = search rules
 
-number-at-requires : tie.Need-number-at-requires
+number-at-requires : tie.Need-number_at-requires
 number-at-requires c κs = search rules
 
 returns : tie.Need-returns

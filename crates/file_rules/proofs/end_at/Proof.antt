@@ -6,20 +6,25 @@ use borrow.Author.Rules.{rules}
 use Rattle.file_rules.proofs.end_at.Statement.{statement}
 use Rattle.file_rules.proofs.end_at.Tie as tie
 
-cast-number-at : tie.Need-overflow-cast-number-at
+cast-number-at : tie.Need-overflow_cast-h
 cast-number-at c = search rules
 
-add-number-at : tie.Need-overflow-add-number-at
+add-number-at : tie.Need-overflow_add-h
 add-number-at c = search rules
 
-add-number-at-2 : tie.Need-overflow-add-number-at-2
+add-number-at-2 : tie.Need-overflow_add-h-2
 add-number-at-2 c = search rules
 
-number-at-requires : tie.Need-number-at-requires
+number-at-requires : tie.Need-number_at-requires
 number-at-requires c κs = search rules
 
 returns : tie.Need-returns
 returns c = c.number_at.ensures ∙ sym (get_d_from _ _ _ _ _ (omega arith))
 
 pub end_at_spec : {M : Type 1} → statement M
-end_at_spec = tie.close (tie.spec cast-number-at add-number-at add-number-at-2 number-at-requires returns)
+end_at_spec = tie.close (tie.spec
+    cast-number-at
+    add-number-at
+    add-number-at-2
+    number-at-requires
+    returns)

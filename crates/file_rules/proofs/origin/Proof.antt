@@ -3,11 +3,13 @@ use mathlib.Core.Path.{refl}
 use Rattle.file_rules.proofs.origin.Statement.{statement}
 use Rattle.file_rules.proofs.origin.Tie as tie
 
-returns : tie.Need-returns
-returns c = (λ z. refl, λ n. absurd (n c.if1.true))
+returns : tie.Need-returns-then-block-other
+returns c = (λ z. refl, λ n. absurd (n c.if-block-other.true))
 
-returns-2 : tie.Need-returns-2
-returns-2 c = (λ z. absurd (c.if1.false z), λ n. refl)
+returns-2 : tie.Need-returns
+returns-2 c = (λ z. absurd (c.if-block-other.false z), λ n. refl)
 
 pub origin_spec : {M : Type 1} → statement M
-origin_spec = tie.close (tie.spec returns returns-2)
+origin_spec = tie.close (tie.spec
+    returns
+    returns-2)

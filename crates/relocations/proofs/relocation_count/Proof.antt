@@ -21,24 +21,24 @@ asked
     (sizes s.args.buckets s.args.bins)
 asked s = accepted _ _ s.requires.asked
 
-bin-count-requires : tie.Need-bin-count-requires
-bin-count-requires c κs = c.before.requires.whole
+bin-count-requires : tie.Need-bin_count-old_bins-requires
+bin-count-requires c κs = c.requires.whole
 
-div-due-below : tie.Need-nonzero-div-due-below
+div-due-below : tie.Need-nonzero_div-buckets
 div-due-below c = (asked c.before.before).some_bins
 
-rem-due-below : tie.Need-nonzero-rem-due-below
+rem-due-below : tie.Need-nonzero_rem-buckets
 rem-due-below c = (asked c.before.before).some_bins
 
-due-below-requires : tie.Need-due-below-requires
+due-below-requires : tie.Need-due_below-requires
 unfolding due_below
 due-below-requires c κs =
     let start = c.before.before in
     let rest = start.requires.whole in
-    let n = c.bin-count.ensures rest.ends rest.blocks rest.adjustments in
+    let n = c.bin_count-old_bins.ensures rest.ends rest.blocks rest.adjustments in
     omega (
       arith,
-      due_within (sizes start.args.buckets start.args.bins) c.bin-count.result (omega (arith, n, (asked start).more_bins)),
+      due_within (sizes start.args.buckets start.args.bins) c.bin_count-old_bins.result (omega (arith, n, (asked start).more_bins)),
       start.ranges.buckets,
     )
 
@@ -50,8 +50,8 @@ unfolding table growth_tests shrinks unchanged blocks_full bins
 returns c ends blocks adjustments formed =
     let start = c.before.before.before.before in
     rows_counted start.args.h _ _ formed start.requires.asked _ _ _
-    (c.before.before.bin-count.ensures ends blocks adjustments)
-    c.before.due_below.ensures
+    (c.bin_count-old_bins.ensures ends blocks adjustments)
+    c.due_below.ensures
     c.excess.ensures
 
 pub relocation_count_spec : {M : Type 1} → statement M

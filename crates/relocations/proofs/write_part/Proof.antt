@@ -8,91 +8,91 @@ use borrow.Author.Rules.{rules}
 use Rattle.relocations.proofs.write_part.Statement.{statement}
 use Rattle.relocations.proofs.write_part.Tie as tie
 
-sub-moved : tie.Need-overflow-sub-moved
+sub-moved : tie.Need-overflow_sub-moved
 sub-moved c = search rules
 
-excess-requires : tie.Need-excess-requires
+excess-requires : tie.Need-excess-skip-requires
 excess-requires c κs = search rules
 
-excess-requires-2 : tie.Need-excess-requires-2
+excess-requires-2 : tie.Need-excess-at-requires
 excess-requires-2 c κs = search rules
 
-cast-at : tie.Need-overflow-cast-at
+cast-at : tie.Need-overflow_cast-at
 cast-at c = search rules
 
-sub-if1 : tie.Need-overflow-sub-if1
+sub-if1 : tie.Need-overflow_sub-end
 sub-if1 c = search rules
 
-returns : tie.Need-returns
+returns : tie.Need-returns-then-end-bucket
 returns c =
     let start = c.before.before.before.before.before in
     paged_past _ start.args.bucket start.args.end start.args.first _ start.args.rows.now (omega arith)
 
-returns-2 : tie.Need-returns-2
+returns-2 : tie.Need-returns-then-room-at
 returns-2 c =
     let start = c.before.before.before.before.before.before in
     paged_full _ start.args.bucket start.args.end start.args.first _ start.args.rows.now (omega arith)
 
-add_start : tie.Need-overflow-add-start
+add_start : tie.Need-overflow_add-start
 add_start c = search rules
 
-sub-free : tie.Need-overflow-sub-free
+sub-free : tie.Need-overflow_sub-free
 sub-free c = search rules
 
-sub-if3 : tie.Need-overflow-sub-if3
+sub-if3 : tie.Need-overflow_sub-end-2
 sub-if3 c = search rules
 
-cast-if3 : tie.Need-overflow-cast-if3
+cast-if3 : tie.Need-overflow_cast-end
 cast-if3 c = search rules
 
-write-span-requires : tie.Need-write-span-requires
+write-span-requires : tie.Need-write_span-requires
 write-span-requires c κs = search rules
 
-same_length : tie.Need-same-length
+same_length : tie.Need-shape_of-rows-then-end-start
 same_length c = search rules
 
-returns-3 : tie.Need-returns-3
+returns-3 : tie.Need-returns-then-end-start
 returns-3 c =
     let start = c.before.before.before.before.before.before.before.before.before.before.before in
-    c.before.before.write-span.ensures
+    c.write_span.ensures
     ∙ paged_left _ start.args.bucket start.args.end start.args.first _ start.args.rows.now
-    c.before.before.before.before.before.before.before.excess2.result
-    c.before.before.before.before.before.before.before.before.excess.result
-    c.before.before.before.before.before.before.before.excess2.ensures
-    c.before.before.before.before.before.before.before.before.excess.ensures
-    c.before.before.before.before.if3.true
+    c.excess-at.result
+    c.excess-skip.result
+    c.excess-at.ensures
+    c.excess-skip.ensures
+    c.if-end-start.true
 
-cast-write-span : tie.Need-overflow-cast-write-span
+cast-write-span : tie.Need-overflow_cast-free
 cast-write-span c = search rules
 
-add-write-span : tie.Need-overflow-add-write-span
+add-write-span : tie.Need-overflow_add-start-2
 add-write-span c = search rules
 
-write-span-requires-2 : tie.Need-write-span-requires-2
+write-span-requires-2 : tie.Need-write_span-requires-2
 write-span-requires-2 c κs =
     let start = c.before.before.before.before.before.before.before.before in
-    let skip = c.before.before.before.before.before.excess.result in (
+    let skip = c.excess-skip.result in (
       (
         places_later _ _ _ (omega arith) (omega arith) start.requires.old_places,
         places_later _ _ _ (omega arith) (omega arith) start.requires.new_places,
         omega arith,
       ),
-      room_fits _ c.before.before.before.before.excess2.result (start.args.bucket + skip) c.before.before.if2.false,
+      room_fits _ c.excess-at.result (start.args.bucket + skip) c.if-room-at.false,
     )
 
-same-length-2 : tie.Need-same-length-2
+same-length-2 : tie.Need-shape_of-rows
 same-length-2 c = search rules
 
-returns-4 : tie.Need-returns-4
+returns-4 : tie.Need-returns
 returns-4 c =
     let start = c.before.before.before.before.before.before.before.before.before.before.before in
-    c.before.before.write-span2.ensures
+    c.write_span-2.ensures
     ∙ paged_room _ start.args.bucket start.args.end start.args.first _ start.args.rows.now
-    c.before.before.before.before.before.before.before.excess2.result
-    c.before.before.before.before.before.before.before.before.excess.result
-    c.before.before.before.before.before.before.before.excess2.ensures
-    c.before.before.before.before.before.before.before.before.excess.ensures
-    c.before.before.before.before.if3.false
+    c.excess-at.result
+    c.excess-skip.result
+    c.excess-at.ensures
+    c.excess-skip.ensures
+    c.if-end-start.false
 
 pub write_part_spec : {M : Type 1} → statement M
 write_part_spec =

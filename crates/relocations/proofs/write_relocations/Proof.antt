@@ -13,62 +13,62 @@ use borrow.Author.Rules.{rules}
 use Rattle.relocations.proofs.write_relocations.Statement.{statement}
 use Rattle.relocations.proofs.write_relocations.Tie as tie
 
-returns : tie.Need-returns
+returns : tie.Need-returns-then-left-eq0
 returns c =
     let start = c.before.before.before.before.before.before in
-    page_past start.args.first _ _ (omega (arith, c.if1.true, start.requires.1.1))
+    page_past start.args.first _ _ (omega (arith, c.if-left-eq0.true, start.requires.1.1))
 
-dues-after-requires : tie.Need-dues-after-requires
+dues-after-requires : tie.Need-dues_after-requires
 dues-after-requires c κs =
     let start = c.before.before.before.before.before.before.before in
     (record { whole = lent_tops _ _ start.requires.0; asked = start.requires.1.0 }, refl)
 
 -- there is a row from order number `first` on, so some old block is due less
 moves
-    : (c : tie.After-write-moved-arg)
+    : (c : tie.After-write_moved-arg-1)
     → let s = c.before.before.before.before.before.before.before.before.before.before in
     Moves
     (lent s.args.h s.args.tops.now s.args.ends.now s.args.blocks.now s.args.adjustments.now)
     (sizes s.args.buckets s.args.bins)
-    c.before.before.dues-after.new.1.1.1.1.0
+    c.dues_after.new.dues
 unfolding rows_of
 moves c =
     let start = c.before.before.before.before.before.before.before.before.before.before in
     let (formed, (asked, all)) = start.requires in
-    let other = c.before.before.before.before.if1.false in
+    let other = c.if-left-eq0.false in
     let falls = rows_falls start.args.h _ _ formed asked start.args.first (omega arith) in
-    record { asked = asked; falls = falls; after = c.before.before.dues-after.ensures _ _ _ }
+    record { asked = asked; falls = falls; after = c.dues_after.ensures _ _ _ }
 
-write-moved-requires : tie.Need-write-moved-requires
+write-moved-requires : tie.Need-write_moved-requires
 write-moved-requires c κs =
     let start = c.before.before.before.before.before.before.before.before.before.before in
     (start.requires.0, (start.args.buckets, moves c))
 
-same_length : tie.Need-same-length
+same_length : tie.Need-shape_of-rows-then-left-room
 same_length c = search rules
 
-returns-2 : tie.Need-returns-2
+returns-2 : tie.Need-returns-then-left-room
 returns-2 c =
     let start = c.before.before.before.before.before.before.before.before.before.before.before.before.before.before in
-    let written = c.before.before.before.write-moved in
+    let written = c.write_moved in
     let rest : start.args.left ≡ start.args.first + start.args.left - start.args.first = omega arith in
-    let room = ap (λ n. n / 5) written.auto.1.1.1.1.1.1.1.1.0 in (
-      rest ∙ page_left start.args.first _ _ _ start.requires.1.1 (omega (arith, room, c.if2.true)),
+    let room = ap (λ n. n / 5) written.auto.rows in (
+      rest ∙ page_left start.args.first _ _ _ start.requires.1.1 (omega (arith, room, c.if-left-room.true)),
       written.ensures start.args.buckets (moves c.before.before.before.before),
     )
 
-cast-result : tie.Need-overflow-cast-result
+cast-result : tie.Need-overflow_cast-result
 cast-result c = search rules
 
-same-length-2 : tie.Need-same-length-2
+same-length-2 : tie.Need-shape_of-rows
 same-length-2 c = search rules
 
-returns-3 : tie.Need-returns-3
+returns-3 : tie.Need-returns
 returns-3 c =
     let start = c.before.before.before.before.before.before.before.before.before.before.before.before.before.before in
-    let written = c.before.before.before.write-moved in
-    let room = ap (λ n. n / 5) written.auto.1.1.1.1.1.1.1.1.0 in (
-      room ∙ page_room start.args.first _ _ _ start.requires.1.1 (omega (arith, room, c.if2.false)),
+    let written = c.write_moved in
+    let room = ap (λ n. n / 5) written.auto.rows in (
+      room ∙ page_room start.args.first _ _ _ start.requires.1.1 (omega (arith, room, c.if-left-room.false)),
       written.ensures start.args.buckets (moves c.before.before.before.before),
     )
 
