@@ -24,100 +24,100 @@ ours s = made s.args.plan (is s) s.args.g s.args.left
 
 -- one that stays
 stays
-    : (c : tie.After-enum-told)
-    → let s = c.before.before.before.before.before in
+    : (c : tie.In-Stay)
+    → let s = c.before.before.before.before in
     ours s ≡ made (staying s.args.plan.moved) (is s) s.args.g s.args.left
-stays c = let s = c.before.before.before.before.before in stays_same s.args.plan (is s) s.args.g s.args.left c.enum_told.given.1
+stays c = let s = c.before.before.before.before in stays_same s.args.plan (is s) s.args.g s.args.left c.in-Stay.is
 
 -- one that moves goes to the new block, and so does the right part of one that splits
 moves
-    : (c : tie.After-action)
-    → let s = c.before.before.before.before.before in
-    ours s ≡ interval (reach s) s.args.g c.action.given.0.0 ∷ []
-moves c = let s = c.before.before.before.before.before in made_move s.args.plan (is s) s.args.g s.args.left _ c.action.given.1
+    : (c : tie.In-Move)
+    → let s = c.before.before.before.before in
+    ours s ≡ interval (reach s) s.args.g c.in-Move.shift ∷ []
+moves c = let s = c.before.before.before.before in made_move s.args.plan (is s) s.args.g s.args.left _ c.in-Move.is
 
 splits
-    : (c : tie.After-action2)
-    → let s = c.before.before.before.before.before in
+    : (c : tie.In-Split)
+    → let s = c.before.before.before.before in
     ours s
-    ≡ interval c.action2.given.0.0 s.args.block s.args.adjustment
-    ∷ interval (reach s) s.args.g c.action2.given.0.1.0
+    ≡ interval c.in-Split.bucket s.args.block s.args.adjustment
+    ∷ interval (reach s) s.args.g c.in-Split.shift
     ∷ []
 splits c =
-    let s = c.before.before.before.before.before in
-    made_split s.args.plan (is s) s.args.g s.args.left _ _ c.action2.given.1
+    let s = c.before.before.before.before in
+    made_split s.args.plan (is s) s.args.g s.args.left _ _ c.in-Split.is
 
-add-reach : tie.Need-overflow-add-reach
+add-reach : tie.Need-overflow_add-reach
 add-reach c = search rules
 
-enum_told : tie.Need-enum-told
+enum_told : tie.Need-enum_told-1
 enum_told c = search rules
 
-write-stay-requires : tie.Need-write-stay-requires
+write-stay-requires : tie.Need-write_stay-requires
 write-stay-requires c κs =
     let arm = c.before.before.before in
-    let pre = arm.before.before.before.before.before.requires in
+    let pre = arm.requires in
     (pre.0, rw (stays arm) at pre.1)
 
-enum-known-action : tie.Need-enum-known-action
+enum-known-action : tie.Need-enum_known-action
 enum-known-action c = search rules
 
-write-moved-requires : tie.Need-write-moved-requires
-write-moved-requires c κs = let arm = c.before.before.before.before in rw (moves arm) at arm.before.before.before.before.before.requires.1
+write-moved-requires : tie.Need-write_moved-requires
+write-moved-requires c κs = let arm = c.before.before.before in rw (moves arm) at arm.requires.1
 
-add-result : tie.Need-overflow-add-result
+add-result : tie.Need-overflow_add-result
 add-result c = search rules
 
-enum-known-action-2 : tie.Need-enum-known-action-2
+enum-known-action-2 : tie.Need-enum_known-action-in-Split-1
 enum-known-action-2 c = search rules
 
-write-two-requires : tie.Need-write-two-requires
-write-two-requires c κs = let arm = c.before.before.before.before in rw (splits arm) at arm.before.before.before.before.before.requires.1
+write-two-requires : tie.Need-write_two-requires
+write-two-requires c κs = let arm = c.before.before.before in rw (splits arm) at arm.requires.1
 
-add-result-2 : tie.Need-overflow-add-result-2
+add-result-2 : tie.Need-overflow_add-result-in-Split
 add-result-2 c = search rules
 
-same_length : tie.Need-same-length
+same_length : tie.Need-shape_of-ends-in-Stay
 same_length c = search rules
 
-same-length-2 : tie.Need-same-length-2
+same-length-2 : tie.Need-shape_of-blocks-in-Stay
 same-length-2 c = search rules
 
-same-length-3 : tie.Need-same-length-3
+same-length-3 : tie.Need-shape_of-adjustments-in-Stay
 same-length-3 c = search rules
 
-returns : tie.Need-returns
+returns : tie.Need-returns-in-Stay
 returns c =
     let stored = c.before.before.before.before.before.before in
-    rw (stays stored.before.before.before.before) stored.write-stay.ensures
+    rw (stays stored.before.before.before.before) stored.write_stay.ensures
 
-same-length-4 : tie.Need-same-length-4
+same-length-4 : tie.Need-shape_of-ends-in-Move
 same-length-4 c = search rules
 
-same-length-5 : tie.Need-same-length-5
+same-length-5 : tie.Need-shape_of-blocks-in-Move
 same-length-5 c = search rules
 
-same-length-6 : tie.Need-same-length-6
+same-length-6 : tie.Need-shape_of-adjustments-in-Move
 same-length-6 c = search rules
 
-returns-2 : tie.Need-returns-2
+returns-2 : tie.Need-returns-in-Move
 returns-2 c =
     let stored = c.before.before.before.before.before.before in
-    rw (moves stored.before.before.before.before.before) (omega arith, stored.write-moved.ensures)
+    rw (moves stored.before.before.before.before) (omega arith, stored.write_moved.ensures)
 
-same-length-7 : tie.Need-same-length-7
+same-length-7 : tie.Need-shape_of-ends-in-Split
 same-length-7 c = search rules
 
-same-length-8 : tie.Need-same-length-8
+same-length-8 : tie.Need-shape_of-blocks-in-Split
 same-length-8 c = search rules
 
-same-length-9 : tie.Need-same-length-9
+same-length-9 : tie.Need-shape_of-adjustments-in-Split
 same-length-9 c = search rules
 
-returns-3 : tie.Need-returns-3
+returns-3 : tie.Need-returns-in-Split
 returns-3 c =
     let stored = c.before.before.before.before.before.before in
-    rw (splits stored.before.before.before.before.before) (omega arith, stored.write_two.ensures)
+    rw (splits stored.before.before.before.before) (omega arith, stored.write_two.ensures)
 
 pub write_parts_spec : {M : Type 1} → statement M
 write_parts_spec =

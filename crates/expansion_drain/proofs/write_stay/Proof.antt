@@ -18,59 +18,59 @@ is s = interval s.args.end s.args.block s.args.adjustment
 abbrev ours : tie.Start → List Interval
 ours s = made (staying s.args.moved) (is s) s.args.g s.args.left
 
-alone : (c : tie.Then1) → let s = c.before.before.before.before in ours s ≡ is s ∷ []
-alone c = let s = c.before.before.before.before in made_stay _ (is s) s.args.g s.args.left refl s.requires.0.0 (omega (arith, c.if1.true))
+alone : (c : tie.Then-left-eq0) → let s = c.before.before.before.before in ours s ≡ is s ∷ []
+alone c = let s = c.before.before.before.before in made_stay _ (is s) s.args.g s.args.left refl s.requires.0.0 (omega (arith, c.if-left-eq0.true))
 
 fresh
-    : (c : tie.Else1)
+    : (c : tie.Else-left-eq0)
     → let s = c.before.before.before.before in
     ours s ≡ is s ∷ interval (s.args.end + s.args.left) s.args.g (s.args.end - s.args.moved) ∷ []
 fresh c =
     let s = c.before.before.before.before in
-    made_fresh (staying s.args.moved) (is s) s.args.g s.args.left refl s.requires.0.0 (λ z. omega (arith, c.if1.false))
+    made_fresh (staying s.args.moved) (is s) s.args.g s.args.left refl s.requires.0.0 (λ z. omega (arith, c.if-left-eq0.false))
 
-write-interval-requires : tie.Need-write-interval-requires
-write-interval-requires c κs = let arm = c.before.before.before in rw (alone arm) at arm.before.before.before.before.requires.1
+write-interval-requires : tie.Need-write_interval-requires
+write-interval-requires c κs = let arm = c.before.before.before in rw (alone arm) at arm.requires.1
 
-add-result : tie.Need-overflow-add-result
+add-result : tie.Need-overflow_add-result
 add-result c = search rules
 
-same_length : tie.Need-same-length
+same_length : tie.Need-shape_of-ends-then-left-eq0
 same_length c = search rules
 
-same-length-2 : tie.Need-same-length-2
+same-length-2 : tie.Need-shape_of-blocks-then-left-eq0
 same-length-2 c = search rules
 
-same-length-3 : tie.Need-same-length-3
+same-length-3 : tie.Need-shape_of-adjustments-then-left-eq0
 same-length-3 c = search rules
 
-returns : tie.Need-returns
+returns : tie.Need-returns-then-left-eq0
 returns c =
     let stored = c.before.before.before.before.before.before in
-    rw (alone stored.before.before.before.before) (omega arith, stored.write-interval.ensures)
+    rw (alone stored.before.before.before.before) (omega arith, stored.write_interval.ensures)
 
-add-write-two : tie.Need-overflow-add-write-two
+add-write-two : tie.Need-overflow_add-end
 add-write-two c = search rules
 
-sub-write-two : tie.Need-overflow-sub-write-two
+sub-write-two : tie.Need-overflow_sub-end
 sub-write-two c = search rules
 
-write-two-requires : tie.Need-write-two-requires
-write-two-requires c κs = let arm = c.before.before.before in rw (fresh arm) at arm.before.before.before.before.requires.1
+write-two-requires : tie.Need-write_two-requires
+write-two-requires c κs = let arm = c.before.before.before in rw (fresh arm) at arm.requires.1
 
-add-result-2 : tie.Need-overflow-add-result-2
+add-result-2 : tie.Need-overflow_add-result-2
 add-result-2 c = search rules
 
-same-length-4 : tie.Need-same-length-4
+same-length-4 : tie.Need-shape_of-ends
 same-length-4 c = search rules
 
-same-length-5 : tie.Need-same-length-5
+same-length-5 : tie.Need-shape_of-blocks
 same-length-5 c = search rules
 
-same-length-6 : tie.Need-same-length-6
+same-length-6 : tie.Need-shape_of-adjustments
 same-length-6 c = search rules
 
-returns-2 : tie.Need-returns-2
+returns-2 : tie.Need-returns
 returns-2 c =
     let stored = c.before.before.before.before.before.before in
     rw (fresh stored.before.before.before.before) (omega arith, stored.write_two.ensures)

@@ -8,118 +8,112 @@ use Rattle.lines.proofs.Reading.{read_no_second, read_where, read_one, read_no_t
 use Rattle.lines.proofs.read.Statement.{statement}
 use Rattle.lines.proofs.read.Tie as tie
 
-returns : tie.Need-returns
+returns : tie.Need-returns-then-line-gt64
 returns c = read_long _ (omega arith)
 
-word-end-requires : tie.Need-word-end-requires
+word-end-requires : tie.Need-word_end-end-requires
 word-end-requires c κs = search rules
 
 -- the first word
-firstly : (c : tie.After-word-end) → First c.before.before.before.args.line.now c.word-end.result
-firstly c = first _ _ (omega arith) c.word-end.ensures
+firstly : (c : tie.After-word_end-end) → First c.args.line.now c.word_end-end.result
+firstly c = first _ _ (omega arith) c.word_end-end.ensures
 
-slice-aggregate-is-word : tie.Need-slice-aggregate-is-word
-slice-aggregate-is-word c = search rules
-
-is-word-requires : tie.Need-is-word-requires
+is-word-requires : tie.Need-is_word-requires
 is-word-requires c κs = search rules
 
-returns-2 : tie.Need-returns-2
+returns-2 : tie.Need-returns-then-is_word
 unfolding text
 returns-2 c =
-    read_moves (firstly c.before.before.before.before) c.before.before.before.if2.true
-    (sym c.before.is_IsWord.ensures ∙ c.if3.true)
+    read_moves (firstly c.before.before.before.before.before) c.before.before.before.if-end-line.true
+    (sym c.is_word.ensures ∙ c.if-is_word.true)
 
-returns-3 : tie.Need-returns-3
+returns-3 : tie.Need-returns-then-end-line
 unfolding text
 returns-3 c =
-    read_alone (firstly c.before.before.before.before) c.before.before.before.if2.true
-    (sym c.before.is_IsWord.ensures ∙ c.if3.false)
+    read_alone (firstly c.before.before.before.before.before) c.before.before.before.if-end-line.true
+    (sym c.is_word.ensures ∙ c.if-is_word.false)
 
-add-number : tie.Need-overflow-add-number
+add-number : tie.Need-overflow_add-end
 add-number c = let f = firstly c.before in omega arith
 
 number-requires : tie.Need-number-requires
 number-requires c κs = let f = firstly c.before in omega arith
 
-enum-known-a : tie.Need-enum-known-a
+enum-known-a : tie.Need-enum_known-a
 enum-known-a c = search rules
 
 -- the first number
 secondly
-    : (c : tie.After-known-told)
-    → Second c.before.before.before.before.before.before.before.before.args.line.now
-    c.before.before.before.before.before.word-end.result
-    c.before.a.given.0.0
-    c.before.a.given.0.1.0
+    : (c : tie.In-Number)
+    → Second c.args.line.now
+    c.word_end-end.result
+    c.in-Number.a
+    c.in-Number.second
 secondly c =
-    second (firstly c.before.before.before.before.before) c.before.before.before.before.if2.false _ _
-    (sym c.before.before.before.number.ensures ∙ c.before.a.given.1)
+    second (firstly c.before.before.before) c.if-end-line.false _ _
+    (sym c.number.ensures ∙ c.in-Number.is)
 
-enum_told : tie.Need-enum-told
+enum_told : tie.Need-enum_told-1
 enum_told c = search rules
 
-returns-4 : tie.Need-returns-4
+returns-4 : tie.Need-returns-in_default
 returns-4 c =
-    read_no_second (firstly c.before.before.before.before) c.before.before.before.if2.false
-    (sym c.before.before.number.ensures ∙ c.enum_told.given.1)
+    read_no_second (firstly c.before.before.before) c.if-end-line.false
+    (sym c.number.ensures ∙ c.in_default.is)
 
-slice-aggregate-is-word-2 : tie.Need-slice-aggregate-is-word-2
-slice-aggregate-is-word-2 c = search rules
+is-word-requires-2 : tie.Need-is_word-requires-then-second-line
+is-word-requires-2 c κs = let s = secondly c.before.before.before in omega arith
 
-is-word-requires-2 : tie.Need-is-word-requires-2
-is-word-requires-2 c κs = let s = secondly c.before.before in omega arith
-
-returns-5 : tie.Need-returns-5
+returns-5 : tie.Need-returns-then-is_word-2
 unfolding text
 returns-5 c =
-    read_where (secondly c.before.before.before.before) c.before.before.before.if4.true
-    (sym c.before.is-word2.ensures ∙ c.if5.true)
+    read_where (secondly c.before.before.before.before.before) c.before.before.before.if-second-line.true
+    (sym c.is_word-then-second-line.ensures ∙ c.if-is_word-2.true)
 
-returns-6 : tie.Need-returns-6
+returns-6 : tie.Need-returns-then-second-line
 unfolding text
 returns-6 c =
-    read_one (secondly c.before.before.before.before) c.before.before.before.if4.true
-    (sym c.before.is-word2.ensures ∙ c.if5.false)
+    read_one (secondly c.before.before.before.before.before) c.before.before.before.if-second-line.true
+    (sym c.is_word-then-second-line.ensures ∙ c.if-is_word-2.false)
 
-add-number-2 : tie.Need-overflow-add-number-2
+add-number-2 : tie.Need-overflow_add-second
 add-number-2 c = let s = secondly c.before in omega arith
 
 number-requires-2 : tie.Need-number-requires-2
 number-requires-2 c κs = let s = secondly c.before in omega arith
 
-enum-known-b : tie.Need-enum-known-b
+enum-known-b : tie.Need-enum_known-b
 enum-known-b c = search rules
 
 -- the second number
 thirdly
-    : (c : tie.After-known-told2)
-    → Third c.before.before.before.before.before.before.before.before.before.before.before.before.before.args.line.now
-    c.before.before.before.before.before.before.before.before.before.before.word-end.result
-    c.before.before.before.before.before.before.a.given.0.0
-    c.before.before.before.before.before.before.a.given.0.1.0
-    c.before.b.given.0.0
-    c.before.b.given.0.1.0
+    : (c : tie.In-Number-number)
+    → Third c.args.line.now
+    c.word_end-end.result
+    c.in-Number.a
+    c.in-Number.second
+    c.in-Number-number.b
+    c.in-Number-number.third
 thirdly c =
-    third (secondly c.before.before.before.before.before) c.before.before.before.before.if4.false _ _
-    (sym c.before.before.before.number2.ensures ∙ c.before.b.given.1)
+    third (secondly c.before.before.before) c.if-second-line.false _ _
+    (sym c.number-2.ensures ∙ c.in-Number-number.is)
 
-enum-told-2 : tie.Need-enum-told-2
+enum-told-2 : tie.Need-enum_told-in_default-number
 enum-told-2 c = search rules
 
-returns-7 : tie.Need-returns-7
+returns-7 : tie.Need-returns-in_default-number
 returns-7 c =
-    read_no_third (secondly c.before.before.before.before) c.before.before.before.if4.false
-    (sym c.before.before.number2.ensures ∙ c.enum-told2.given.1)
+    read_no_third (secondly c.before.before.before) c.if-second-line.false
+    (sym c.number-2.ensures ∙ c.in_default-number.is)
 
-returns-8 : tie.Need-returns-8
-returns-8 c = read_more (thirdly c.before) c.if6.true
+returns-8 : tie.Need-returns-then-third-line
+returns-8 c = read_more (thirdly c.before) c.if-third-line.true
 
-with-two-requires : tie.Need-with-two-requires
+with-two-requires : tie.Need-with_two-requires
 with-two-requires c κs = let t = thirdly c.before in omega arith
 
-returns-9 : tie.Need-returns-9
-returns-9 c = c.with_two.ensures ∙ read_two (thirdly c.before.before) c.before.if6.false
+returns-9 : tie.Need-returns
+returns-9 c = c.with_two.ensures ∙ read_two (thirdly c.before.before) c.if-third-line.false
 
 pub read_spec : {M : Type 1} → statement M
 read_spec =
@@ -127,7 +121,6 @@ read_spec =
     (tie.spec
     returns
     word-end-requires
-    slice-aggregate-is-word
     is-word-requires
     returns-2
     returns-3
@@ -136,7 +129,6 @@ read_spec =
     enum-known-a
     enum_told
     returns-4
-    slice-aggregate-is-word-2
     is-word-requires-2
     returns-5
     returns-6

@@ -15,75 +15,63 @@ use Rattle.lines.proofs.with_two.Tie as tie
 abbrev word : tie.Start → List ℕ
 word c = take c.args.end c.args.line.now
 
-slice-aggregate-is-word : tie.Need-slice-aggregate-is-word
-slice-aggregate-is-word c = search rules
-
-is-word-requires : tie.Need-is-word-requires
+is-word-requires : tie.Need-is_word-requires
 is-word-requires c κs = search rules
 
-returns : tie.Need-returns
+returns : tie.Need-returns-then-is_word
 unfolding with_two text if◌then◌else◌
 returns c =
-    let fresh : same (word c.before.before.before.before) (text "fresh") ≡ true =
-    sym c.before.is_IsWord.ensures ∙ c.if1.true
+    let fresh : same (word c.before.before.before.before.before) (text "fresh") ≡ true =
+    sym c.is_word.ensures ∙ c.if-is_word.true
     in
     rw fresh
 
-slice-aggregate-is-word-2 : tie.Need-slice-aggregate-is-word-2
-slice-aggregate-is-word-2 c = search rules
-
-is-word-requires-2 : tie.Need-is-word-requires-2
+is-word-requires-2 : tie.Need-is_word-requires-2
 is-word-requires-2 c κs = search rules
 
-not_fresh : (c : tie.Else1) → same (word c.before.before.before.before) (text "fresh") ≡ false
+not_fresh : (c : tie.Else-is_word) → same (word c.before.before.before.before.before) (text "fresh") ≡ false
 unfolding text
-not_fresh c = sym c.before.is_IsWord.ensures ∙ c.if1.false
+not_fresh c = sym c.is_word.ensures ∙ c.if-is_word.false
 
-returns-2 : tie.Need-returns-2
+returns-2 : tie.Need-returns-then-is_word-2
 unfolding with_two text if◌then◌else◌
 returns-2 c =
-    let grow : same (word c.before.before.before.before.before.before.before) (text "grow") ≡ true =
-    sym c.before.is-word2.ensures ∙ c.if2.true
+    let grow : same (word c.before.before.before.before.before.before.before.before.before) (text "grow") ≡ true =
+    sym c.is_word-2.ensures ∙ c.if-is_word-2.true
     in
-    rw (not_fresh c.before.before.before, grow)
+    rw (not_fresh c.before.before.before.before, grow)
 
-slice-aggregate-is-word-3 : tie.Need-slice-aggregate-is-word-3
-slice-aggregate-is-word-3 c = search rules
-
-is-word-requires-3 : tie.Need-is-word-requires-3
+is-word-requires-3 : tie.Need-is_word-requires-3
 is-word-requires-3 c κs = search rules
 
-not-grow : (c : tie.Else2) → same (word c.before.before.before.before.before.before.before) (text "grow") ≡ false
+not-grow : (c : tie.Else-is_word-2) → same (word c.before.before.before.before.before.before.before.before.before) (text "grow") ≡ false
 unfolding text
-not-grow c = sym c.before.is-word2.ensures ∙ c.if2.false
+not-grow c = sym c.is_word-2.ensures ∙ c.if-is_word-2.false
 
-returns-3 : tie.Need-returns-3
+returns-3 : tie.Need-returns-then-is_word-3
 unfolding with_two text if◌then◌else◌
 returns-3 c =
-    let at : same (word c.before.before.before.before.before.before.before.before.before.before) (text "at") ≡ true =
-    sym c.before.is-word3.ensures ∙ c.if3.true
+    let at : same (word c.before.before.before.before.before.before.before.before.before.before.before.before.before) (text "at") ≡ true =
+    sym c.is_word-3.ensures ∙ c.if-is_word-3.true
     in
-    rw (not_fresh c.before.before.before.before.before.before, not-grow c.before.before.before, at)
+    rw (not_fresh c.before.before.before.before.before.before.before.before, not-grow c.before.before.before.before, at)
 
-returns-4 : tie.Need-returns-4
+returns-4 : tie.Need-returns
 unfolding with_two text if◌then◌else◌
 returns-4 c =
-    let not_at : same (word c.before.before.before.before.before.before.before.before.before.before) (text "at") ≡ false =
-    sym c.before.is-word3.ensures ∙ c.if3.false
+    let not_at : same (word c.before.before.before.before.before.before.before.before.before.before.before.before.before) (text "at") ≡ false =
+    sym c.is_word-3.ensures ∙ c.if-is_word-3.false
     in
-    rw (not_fresh c.before.before.before.before.before.before, not-grow c.before.before.before, not_at)
+    rw (not_fresh c.before.before.before.before.before.before.before.before, not-grow c.before.before.before.before, not_at)
 
 pub with_two_spec : {M : Type 1} → statement M
 with_two_spec =
     tie.close
     (tie.spec
-    slice-aggregate-is-word
     is-word-requires
     returns
-    slice-aggregate-is-word-2
     is-word-requires-2
     returns-2
-    slice-aggregate-is-word-3
     is-word-requires-3
     returns-3
     returns-4)

@@ -5,19 +5,19 @@ use Rattle.print.specs.Numbers.{numbers, line_of}
 use Rattle.print.proofs.put_bucket.Statement.{statement}
 use Rattle.print.proofs.put_bucket.Tie as tie
 
-slice-aggregate-put-one-line : tie.Need-slice-aggregate-put-one-line
-slice-aggregate-put-one-line c = search rules
-
-put-one-line-requires : tie.Need-put-one-line-requires
+put-one-line-requires : tie.Need-put_one_line-requires
 put-one-line-requires c κs = search rules
 
-same_length : tie.Need-same-length
+same_length : tie.Need-shape_of-out
 same_length c = search rules
 
 returns : tie.Need-returns
 unfolding text line numbers line_of
-returns c = c.before.before.put-one-line.ensures
+returns c = c.put_one_line.ensures
 
 pub put_bucket_spec : {M : Type 1} → statement M
 put_bucket_spec =
-    tie.close (tie.spec slice-aggregate-put-one-line put-one-line-requires same_length returns)
+    tie.close (tie.spec
+    put-one-line-requires
+    same_length
+    returns)

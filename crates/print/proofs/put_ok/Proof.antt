@@ -5,19 +5,19 @@ use Rattle.print.specs.Numbers.{numbers, line_of}
 use Rattle.print.proofs.put_ok.Statement.{statement}
 use Rattle.print.proofs.put_ok.Tie as tie
 
-slice-aggregate-put-two-line : tie.Need-slice-aggregate-put-two-line
-slice-aggregate-put-two-line c = search rules
-
-put-two-line-requires : tie.Need-put-two-line-requires
+put-two-line-requires : tie.Need-put_two_line-requires
 put-two-line-requires c κs = search rules
 
-same_length : tie.Need-same-length
+same_length : tie.Need-shape_of-out
 same_length c = search rules
 
 returns : tie.Need-returns
 unfolding text line numbers line_of
-returns c = c.before.before.put-two-line.ensures
+returns c = c.put_two_line.ensures
 
 pub put_ok_spec : {M : Type 1} → statement M
 put_ok_spec =
-    tie.close (tie.spec slice-aggregate-put-two-line put-two-line-requires same_length returns)
+    tie.close (tie.spec
+    put-two-line-requires
+    same_length
+    returns)

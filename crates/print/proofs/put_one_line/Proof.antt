@@ -14,27 +14,27 @@ use Rattle.print.proofs.Lines.{line_one}
 use Rattle.print.proofs.put_one_line.Statement.{statement}
 use Rattle.print.proofs.put_one_line.Tie as tie
 
-abbrev start : tie.After-slice-known3 → tie.Start
+abbrev start : tie.After-slice_known-3-1 → tie.Start
 start c = c.before.before.before.before.before.before.before.before.before.before
 
-put-word-requires : tie.Need-put-word-requires
+put-word-requires : tie.Need-put_word-behind-requires
 put-word-requires c κs = search rules
 
-put-number-requires : tie.Need-put-number-requires
+put-number-requires : tie.Need-put_number-end-requires
 put-number-requires c κs = search rules
 
 -- the word and a number are stored
 stored
-    : (c : tie.After-slice-known3)
-    → Put (start c).args.at c.before.before.put-number.result ((start c).args.word.now ++ (32 ∷ decimal (start c).args.n))
-    (start c).args.out.now c.before.before.put-number.new.1.0
+    : (c : tie.After-slice_known-3-1)
+    → Put (start c).args.at c.put_number-end.result ((start c).args.word.now ++ (32 ∷ decimal (start c).args.n))
+    (start c).args.out.now c.put_number-end.new.out
 stored c =
-    let first = c.before.before.before.before.before.before.put_word.ensures in
-    let then = c.before.before.put-number.ensures in
+    let first = c.put_word-behind.ensures in
+    let then = c.put_number-end.ensures in
     put_more (put_more (put_none _ _) (start c).args.word.now first.1 first.0) (32 ∷ decimal (start c).args.n) then.1 then.0
 
 -- with room for the line feed
-room : (c : tie.After-slice-known3) → c.before.before.put-number.result < length (start c).args.out.now
+room : (c : tie.After-slice_known-3-1) → c.put_number-end.result < length (start c).args.out.now
 room c =
     omega (
       arith,
@@ -44,10 +44,10 @@ room c =
       decimal_short (start c).args.n,
     )
 
-slice-write-out : tie.Need-slice-write-out
+slice-write-out : tie.Need-bounds-out-end
 slice-write-out c = omega (arith, room c, put_length (stored c))
 
-add-result : tie.Need-overflow-add-result
+add-result : tie.Need-overflow_add-result
 add-result c = omega (arith, room c, start c)
 
 returns : tie.Need-returns
@@ -55,7 +55,7 @@ returns c =
     let all = rw (line_one (start c).args.word.now (start c).args.n) at (put_more (stored c) (10 ∷ []) refl refl) in
     (all.place, all.holds)
 
-same_length : tie.Need-same-length
+same_length : tie.Need-shape_of-out
 same_length c =
     ap length (returns c).1
     ∙ length-sets (start c).args.out.now (start c).args.at (line_of (start c).args.word.now ((start c).args.n ∷ []))
@@ -63,4 +63,10 @@ same_length c =
 pub put_one_line_spec : {M : Type 1} → statement M
 put_one_line_spec =
     tie.close
-    (tie.spec put-word-requires put-number-requires slice-write-out add-result same_length returns)
+    (tie.spec
+    put-word-requires
+    put-number-requires
+    slice-write-out
+    add-result
+    same_length
+    returns)

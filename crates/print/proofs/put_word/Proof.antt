@@ -10,49 +10,49 @@ use Rattle.print.proofs.Stores.{take_next}
 use Rattle.print.proofs.put_word.Statement.{statement}
 use Rattle.print.proofs.put_word.Tie as tie
 
-abbrev invariant-loop : tie.invariant-loop
+abbrev invariant-loop : tie.invariant-loop-i
 invariant-loop word out₀ at i₀ out i = (i ≤ length word) × Put at (at + i) (take i word) out₀ out
 
-abbrev decreases-loop : tie.decreases-loop
+abbrev decreases-loop : tie.decreases-loop-i
 decreases-loop word out₀ at i₀ out i = length word - i
 
-loop-holds : tie.Need-loop-init invariant-loop decreases-loop
+loop-holds : tie.Need-loop-i-init invariant-loop decreases-loop
 loop-holds c = (omega arith, rw add-zero (put_none _ _))
 
-shared-slice-read-out : tie.Need-shared-slice-read-out invariant-loop decreases-loop
+shared-slice-read-out : tie.Need-bounds-word-i invariant-loop decreases-loop
 shared-slice-read-out c = omega arith
 
-add-out : tie.Need-overflow-add-out invariant-loop decreases-loop
+add-out : tie.Need-overflow_add-out invariant-loop decreases-loop
 add-out c = omega arith
 
-slice-write-out : tie.Need-slice-write-out invariant-loop decreases-loop
-slice-write-out c = omega (arith, put_length c.before.before.loop.invariant.1)
+slice-write-out : tie.Need-bounds-out-at invariant-loop decreases-loop
+slice-write-out c = omega (arith, put_length c.loop-i.invariant.1)
 
-add-i : tie.Need-overflow-add-i invariant-loop decreases-loop
+add-i : tie.Need-overflow_add-i invariant-loop decreases-loop
 add-i c = omega arith
 
-loop-less : tie.Need-loop-smaller invariant-loop decreases-loop
+loop-less : tie.Need-loop-i-smaller invariant-loop decreases-loop
 loop-less c = omega arith
 
-loop-again : tie.Need-loop-preserved invariant-loop decreases-loop
+loop-again : tie.Need-loop-i-preserved invariant-loop decreases-loop
 loop-again c =
-    let turn = c.before.before.loop in
-    let word = c.before.before.before.args.word.now in
+    let turn = c.loop-i in
+    let word = c.args.word.now in
     let inside : turn.i < length word = omega arith in
     (omega arith, rw (take_next word turn.i) (put_more turn.invariant.1 _ refl (omega arith)))
 
-add-result : tie.Need-overflow-add-result invariant-loop decreases-loop
+add-result : tie.Need-overflow_add-result invariant-loop decreases-loop
 add-result c = omega arith
 
-same_length : tie.Need-same-length invariant-loop decreases-loop
-same_length c = put_length c.before.loop.invariant.1
+same_length : tie.Need-shape_of-out invariant-loop decreases-loop
+same_length c = put_length c.loop-i.invariant.1
 
 returns : tie.Need-returns invariant-loop decreases-loop
 returns c =
-    let word = c.before.before.args.word.now in
-    let all : c.before.loop.i ≡ length word = omega arith in
-    let whole : take c.before.loop.i word ≡ word = rw all (take-length word) in
-    let p = rw whole at c.before.loop.invariant.1 in
+    let word = c.args.word.now in
+    let all : c.loop-i.i ≡ length word = omega arith in
+    let whole : take c.loop-i.i word ≡ word = rw all (take-length word) in
+    let p = rw whole at c.loop-i.invariant.1 in
     (p.place, p.holds)
 
 pub put_word_spec : {M : Type 1} → statement M

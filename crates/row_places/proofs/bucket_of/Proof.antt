@@ -4,25 +4,25 @@ use borrow.Author.Rules.{rules}
 use Rattle.row_places.proofs.bucket_of.Statement.{statement}
 use Rattle.row_places.proofs.bucket_of.Tie as tie
 
-cast-if1 : tie.Need-overflow-cast-if1
+cast-if1 : tie.Need-overflow_cast-h
 cast-if1 c = search rules
 
-slice-aggregate-bucket-by : tie.Need-slice-aggregate-bucket-by
+slice-aggregate-bucket-by : tie.Need-slice_bounds-bucket_by-end
 slice-aggregate-bucket-by c = search rules
 
-bucket-by-requires : tie.Need-bucket-by-requires
-bucket-by-requires c κs = (c.before.before.before.before.before.before.before.requires, omega arith)
+bucket-by-requires : tie.Need-bucket_by-requires
+bucket-by-requires c κs = (c.requires, omega arith)
 
-returns : tie.Need-returns
+returns : tie.Need-returns-then-h-le-FEW
 returns c = search rules
 
-slice-aggregate-bucket-by-2 : tie.Need-slice-aggregate-bucket-by-2
+slice-aggregate-bucket-by-2 : tie.Need-slice_bounds-bucket_by-end-2
 slice-aggregate-bucket-by-2 c = search rules
 
-bucket-by-requires-2 : tie.Need-bucket-by-requires-2
+bucket-by-requires-2 : tie.Need-bucket_by-requires-2
 bucket-by-requires-2 c κs = search rules
 
-returns-2 : tie.Need-returns-2
+returns-2 : tie.Need-returns
 returns-2 c = search rules
 
 pub bucket_of_spec : {M : Type 1} → statement M

@@ -4,27 +4,27 @@ use Rattle.sheet.proofs.Parts.{head_stored}
 use Rattle.sheet.proofs.copy_head.Statement.{statement}
 use Rattle.sheet.proofs.copy_head.Tie as tie
 
-copy-field-requires : tie.Need-copy-field-requires
+copy-field-requires : tie.Need-copy_field-requires
 copy-field-requires c κs = search rules
 
-sub-copy-field : tie.Need-overflow-sub-copy-field
+sub-copy-field : tie.Need-overflow_sub-end
 sub-copy-field c = search rules
 
-add-copy-field : tie.Need-overflow-add-copy-field
+add-copy-field : tie.Need-overflow_add-at
 add-copy-field c = search rules
 
-copy-field-requires-2 : tie.Need-copy-field-requires-2
+copy-field-requires-2 : tie.Need-copy_field-requires-2
 copy-field-requires-2 c κs = search rules
 
-same_length : tie.Need-same-length
+same_length : tie.Need-shape_of-out
 same_length c = search rules
 
 returns : tie.Need-returns
 returns c =
     let start = c.before.before.before.before.before.before.before.before.before.before in
     head_stored start.args.start start.args.end start.args.at start.args.out.now _ _
-    c.before.before.before.before.before.before.copy-field.ensures
-    c.before.before.copy-field2.ensures
+    c.copy_field.ensures
+    c.copy_field-2.ensures
 
 pub copy_head_spec : {M : Type 1} → statement M
 copy_head_spec =

@@ -17,131 +17,131 @@ use Rattle.sheet.proofs.Parts.{line_stored, sheet_stored, room_for, room_before,
 use Rattle.sheet.proofs.write_many.Statement.{statement}
 use Rattle.sheet.proofs.write_many.Tie as tie
 
-abbrev invariant-loop : tie.invariant-loop
+abbrev invariant-loop : tie.invariant-loop-i
 invariant-loop tops ends blocks out₀ pairs tails lines start₀ i₀ out start i =
     (i ≤ lines) × (start ≡ before ends i) × Put 0 (51 * i) (joined (from (lent_line (arrays tops ends blocks [])) 0 i)) out₀ out
 
-abbrev decreases-loop : tie.decreases-loop
+abbrev decreases-loop : tie.decreases-loop-i
 decreases-loop tops ends blocks out₀ pairs tails lines start₀ i₀ out start i = lines - i
 
-slice-aggregate-put-pairs : tie.Need-slice-aggregate-put-pairs invariant-loop decreases-loop
+slice-aggregate-put-pairs : tie.Need-slice_bounds-put_pairs-end invariant-loop decreases-loop
 slice-aggregate-put-pairs c = search rules
 
-put-pairs-requires : tie.Need-put-pairs-requires invariant-loop decreases-loop
+put-pairs-requires : tie.Need-put_pairs-requires invariant-loop decreases-loop
 put-pairs-requires c κs = omega arith
 
-slice-aggregate-write-tails : tie.Need-slice-aggregate-write-tails invariant-loop decreases-loop
+slice-aggregate-write-tails : tie.Need-slice_bounds-write_tails-end invariant-loop decreases-loop
 slice-aggregate-write-tails c = search rules
 
-write-tails-requires : tie.Need-write-tails-requires invariant-loop decreases-loop
+write-tails-requires : tie.Need-write_tails-requires invariant-loop decreases-loop
 write-tails-requires c κs =
     let start = c.before.before.before.before.before.before.before.before in
     (record { ends = _; blocks = _; adjustments = _; formed = start.requires.0.formed }, omega arith)
 
-cast-lines : tie.Need-overflow-cast-lines invariant-loop decreases-loop
+cast-lines : tie.Need-overflow_cast-lines invariant-loop decreases-loop
 cast-lines c = omega arith
 
-loop-holds : tie.Need-loop-init invariant-loop decreases-loop
+loop-holds : tie.Need-loop-i-init invariant-loop decreases-loop
 unfolding from joined before
 loop-holds c = (omega arith, refl, put_none _ _)
 
-mul-end : tie.Need-overflow-mul-end invariant-loop decreases-loop
+mul-end : tie.Need-offset_bounds-ends-i invariant-loop decreases-loop
 mul-end c = omega arith
 
-shared-slice-read-end : tie.Need-shared-slice-read-end invariant-loop decreases-loop
-shared-slice-read-end c = omega (arith, c.before.before.before.before.before.before.before.before.before.before.before.before.before.before.requires.0.formed.ends_long)
+shared-slice-read-end : tie.Need-bounds-ends-i invariant-loop decreases-loop
+shared-slice-read-end c = omega (arith, c.requires.0.formed.ends_long)
 
-slice-aggregate-copy-tail : tie.Need-slice-aggregate-copy-tail invariant-loop decreases-loop
+slice-aggregate-copy-tail : tie.Need-slice_bounds-copy_tail-end invariant-loop decreases-loop
 slice-aggregate-copy-tail c = search rules
 
-mul-copy-tail : tie.Need-overflow-mul-copy-tail invariant-loop decreases-loop
+mul-copy-tail : tie.Need-offset_bounds-blocks-i invariant-loop decreases-loop
 mul-copy-tail c = omega arith
 
-shared-slice-read-copy-tail : tie.Need-shared-slice-read-copy-tail invariant-loop decreases-loop
-shared-slice-read-copy-tail c = omega (arith, c.before.before.before.before.before.before.before.before.before.before.before.before.before.before.before.before.requires.0.formed.blocks_long)
+shared-slice-read-copy-tail : tie.Need-bounds-blocks-i invariant-loop decreases-loop
+shared-slice-read-copy-tail c = omega (arith, c.requires.0.formed.blocks_long)
 
-cast-copy-tail : tie.Need-overflow-cast-copy-tail invariant-loop decreases-loop
+cast-copy-tail : tie.Need-overflow_cast-blocks invariant-loop decreases-loop
 cast-copy-tail c =
     let start = c.before.before.before.before.before.before.before.before.before.before.before.before.before.before.before.before in
-    omega (arith, block_below_lem start.requires.0 c.before.before.before.before.loop.i (omega arith), start.requires.0.formed.block_limit)
+    omega (arith, block_below_lem start.requires.0 c.loop-i.i (omega arith), start.requires.0.formed.block_limit)
 
-mul-copy-tail-2 : tie.Need-overflow-mul-copy-tail-2 invariant-loop decreases-loop
+mul-copy-tail-2 : tie.Need-overflow_mul-blocks invariant-loop decreases-loop
 mul-copy-tail-2 c =
     let start = c.before.before.before.before.before.before.before.before.before.before.before.before.before.before.before.before in
-    omega (arith, block_below_lem start.requires.0 c.before.before.before.before.loop.i (omega arith), start.requires.0.formed.block_limit)
+    omega (arith, block_below_lem start.requires.0 c.loop-i.i (omega arith), start.requires.0.formed.block_limit)
 
-mul-copy-tail-3 : tie.Need-overflow-mul-copy-tail-3 invariant-loop decreases-loop
-mul-copy-tail-3 c = omega (arith, c.before.before.before.before.before.before.before.before.before.before.before.before.before.before.before.before.before.requires.0.formed.interval_limit)
+mul-copy-tail-3 : tie.Need-overflow_mul-i invariant-loop decreases-loop
+mul-copy-tail-3 c = omega (arith, c.requires.0.formed.interval_limit)
 
-add-copy-tail : tie.Need-overflow-add-copy-tail invariant-loop decreases-loop
-add-copy-tail c = omega (arith, c.before.before.before.before.before.before.before.before.before.before.before.before.before.before.before.before.before.requires.0.formed.interval_limit)
+add-copy-tail : tie.Need-overflow_add-i invariant-loop decreases-loop
+add-copy-tail c = omega (arith, c.requires.0.formed.interval_limit)
 
-sub-copy-tail : tie.Need-overflow-sub-copy-tail invariant-loop decreases-loop
+sub-copy-tail : tie.Need-overflow_sub-i invariant-loop decreases-loop
 sub-copy-tail c = omega arith
 
-copy-tail-requires : tie.Need-copy-tail-requires invariant-loop decreases-loop
+copy-tail-requires : tie.Need-copy_tail-requires invariant-loop decreases-loop
 copy-tail-requires c κs =
     let start = c.before.before.before.before.before.before.before.before.before.before.before.before.before.before.before.before.before in
-    let turn = c.before.before.before.before.before.loop in
+    let turn = c.loop-i in
     let block = block_below_lem start.requires.0 turn.i (omega arith) in (
-      (tail_at start.args.tops.now _ _ _ _ c.before.before.before.before.before.before.before.before.write-tails.ensures (omega (arith, start.requires.0.formed.block_limit)) block).1,
+      (tail_at start.args.tops.now _ _ _ _ c.write_tails.ensures (omega (arith, start.requires.0.formed.block_limit)) block).1,
       room_before start.args.h.interval_count start.requires.1 turn.i turn.invariant.2 (omega arith),
     )
 
-slice-aggregate-copy-head : tie.Need-slice-aggregate-copy-head invariant-loop decreases-loop
+slice-aggregate-copy-head : tie.Need-slice_bounds-copy_head-end invariant-loop decreases-loop
 slice-aggregate-copy-head c = search rules
 
-mul-copy-head : tie.Need-overflow-mul-copy-head invariant-loop decreases-loop
-mul-copy-head c = omega (arith, c.before.before.before.before.before.before.before.before.before.before.before.before.before.before.before.before.before.before.before.before.before.before.requires.0.formed.interval_limit)
+mul-copy-head : tie.Need-overflow_mul-i-in-loop-i invariant-loop decreases-loop
+mul-copy-head c = omega (arith, c.requires.0.formed.interval_limit)
 
-copy-head-requires : tie.Need-copy-head-requires invariant-loop decreases-loop
+copy-head-requires : tie.Need-copy_head-requires invariant-loop decreases-loop
 copy-head-requires c κs =
     let start = c.before.before.before.before.before.before.before.before.before.before.before.before.before.before.before.before.before.before.before.before.before.before in
-    let turn = c.before.before.before.before.before.before.before.before.before.before.loop in
+    let turn = c.loop-i in
     let ready = head_ready start.requires.0 turn.i (omega arith) in
-    let kept = ap length c.before.before.before.before.copy-tail.ensures ∙ length-sets turn.out (51 * turn.i + 20 - 1)
-    (take 32 (drop (32 * get_or start.args.blocks.now turn.i 0) c.before.before.before.before.before.before.before.before.before.before.before.before.before.write-tails.new.1.1.0)) in (
-      pairs_held _ _ (omega arith) c.before.before.before.before.before.before.before.before.before.before.before.before.before.before.before.before.put-pairs.ensures,
+    let kept = ap length c.copy_tail.ensures ∙ length-sets turn.out (51 * turn.i + 20 - 1)
+    (take 32 (drop (32 * get_or start.args.blocks.now turn.i 0) c.write_tails.new.out)) in (
+      pairs_held _ _ (omega arith) c.put_pairs.ensures,
       (
         omega (arith, ready.0, turn.invariant.1),
         omega (arith, kept, (room_for start.args.h.interval_count start.requires.1 turn.i turn.invariant.2 (omega arith)).0),
       ),
     )
 
-add-i : tie.Need-overflow-add-i invariant-loop decreases-loop
+add-i : tie.Need-overflow_add-i-in-loop-i invariant-loop decreases-loop
 add-i c = omega arith
 
-loop-less : tie.Need-loop-smaller invariant-loop decreases-loop
+loop-less : tie.Need-loop-i-smaller invariant-loop decreases-loop
 loop-less c = omega arith
 
-loop-again : tie.Need-loop-preserved invariant-loop decreases-loop
+loop-again : tie.Need-loop-i-preserved invariant-loop decreases-loop
 unfolding spaced_tail
 loop-again c =
     let start = c.before.before.before.before.before.before.before.before.before.before.before.before.before.before.before.before.before.before.before.before.before.before.before.before.before in
-    let turn = c.before.before.before.before.before.before.before.before.before.before.before.before.before.loop in
+    let turn = c.loop-i in
     let a = arrays start.args.tops.now start.args.ends.now start.args.blocks.now [] in
     let block = block_below_lem start.requires.0 turn.i (omega arith) in
-    let spaced = (tail_at a.tops _ _ _ _ c.before.before.before.before.before.before.before.before.before.before.before.before.before.before.before.before.write-tails.ensures (omega (arith, start.requires.0.formed.block_limit)) block).0 in
+    let spaced = (tail_at a.tops _ _ _ _ c.write_tails.ensures (omega (arith, start.requires.0.formed.block_limit)) block).0 in
     let tail = tail_of a.tops (get_or a.blocks turn.i 0) in
     let head = head_of (before a.ends turn.i) (get_or a.ends turn.i 0) in (
       omega arith,
       sym (before_next a.ends turn.i),
       line_stored a turn.i {next = sets turn.out (51 * turn.i) head} turn.invariant.2 refl
           (head_last turn.out _ _ tail head (51 * turn.i) 32 (head_length (before a.ends turn.i) (get_or a.ends turn.i 0))
-          (c.before.before.before.before.before.before.before.copy-tail.ensures ∙ ap (sets turn.out (51 * turn.i + 20 - 1)) spaced)
-          (c.before.before.copy-head.ensures
-          ∙ ap (λ s. sets c.before.before.before.before.before.before.before.copy-tail.new.1.1.0 (51 * turn.i) (head_of s (get_or a.ends turn.i 0))) turn.invariant.1)),
+          (c.copy_tail.ensures ∙ ap (sets turn.out (51 * turn.i + 20 - 1)) spaced)
+          (c.copy_head.ensures
+          ∙ ap (λ s. sets c.copy_tail.new.out (51 * turn.i) (head_of s (get_or a.ends turn.i 0))) turn.invariant.1)),
     )
 
-same_length : tie.Need-same-length invariant-loop decreases-loop
-same_length c = put_length c.before.loop.invariant.2
+same_length : tie.Need-shape_of-out invariant-loop decreases-loop
+same_length c = put_length c.loop-i.invariant.2
 
 returns : tie.Need-returns invariant-loop decreases-loop
 returns c =
     let start = c.before.before.before.before.before.before.before.before.before.before.before.before.before in
-    let all : c.before.loop.i ≡ start.args.h.interval_count = omega arith in
+    let all : c.loop-i.i ≡ start.args.h.interval_count = omega arith in
     sheet_stored start.args.h start.args.tops.now start.args.ends.now start.args.blocks.now start.requires.0
-    start.requires.1 (rw (← all) c.before.loop.invariant.2)
+    start.requires.1 (rw (← all) c.loop-i.invariant.2)
 
 pub write_many_spec : {M : Type 1} → statement M
 write_many_spec =

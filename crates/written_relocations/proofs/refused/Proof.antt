@@ -9,4 +9,5 @@ returns : tie.Need-returns
 returns c = ap (λ (n : ℕ). record { refusal = c.args.refusal; count = n }) (omega arith)
 
 pub refused_spec : {M : Type 1} → statement M
-refused_spec = tie.close (tie.spec returns)
+refused_spec = tie.close (tie.spec
+    returns)

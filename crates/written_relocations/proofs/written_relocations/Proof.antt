@@ -15,7 +15,7 @@ use Rattle.written_relocations.proofs.written_relocations.Statement.{statement}
 use Rattle.written_relocations.proofs.written_relocations.Tie as tie
 
 -- the function's entry past the table's tests, the arrays that it is lent, and the sizes asked for
-abbrev entry : tie.Else1 → tie.Start
+abbrev entry : tie.Else-wrong-ne0 → tie.Start
 entry c = c.before.before.before.before.before.before.before
 
 abbrev lists : tie.Start → Arrays
@@ -25,101 +25,101 @@ abbrev asked : tie.Start → Shape
 asked c = sizes c.args.buckets c.args.bins
 
 -- past them the table is formed
-formed : (c : tie.Else1) → Formed (entry c).args.header (lists (entry c))
-formed c = checked _ _ _ c.before.check.ensures c.if1.false
+formed : (c : tie.Else-wrong-ne0) → Formed (entry c).args.header (lists (entry c))
+formed c = checked _ _ _ c.check-wrong.ensures c.if-wrong-ne0.false
 
 -- past the growth's tests there is none that refuses
 passed
-    : (c : tie.Else2)
+    : (c : tie.Else-wrong-ne0-2)
     → let start = entry c.before.before in
     first (growth_tests (table start.args.header (lists start)) (asked start)) ≡ 0
-passed c = sym (c.before.growth-refusal.ensures _ _ _) ∙ c.if2.false
+passed c = sym (c.growth_refusal-wrong.ensures _ _ _) ∙ c.if-wrong-ne0-2.false
 
-check-requires : tie.Need-check-requires
+check-requires : tie.Need-check-wrong-requires
 check-requires c κs = search rules
 
 refused-requires : tie.Need-refused-requires
 refused-requires c κs = search rules
 
-returns : tie.Need-returns
+returns : tie.Need-returns-then-wrong-ne0
 returns c =
     let start = c.before.before.before.before.before.before.before.before in
-    let wrong = c.before.if1.true in
+    let wrong = c.if-wrong-ne0.true in
     refused_by_lem start.args.header (lists start) (asked start) start.args.bits.now _ _ c.refused.ensures wrong
-    (by_table start.args.header (lists start) (asked start) start.args.bits.now _ c.before.before.check.ensures wrong)
+    (by_table start.args.header (lists start) (asked start) start.args.bits.now _ c.check-wrong.ensures wrong)
 
-growth-refusal-requires : tie.Need-growth-refusal-requires
+growth-refusal-requires : tie.Need-growth_refusal-wrong-requires
 growth-refusal-requires c κs = lent_tops _ _ (formed c)
 
-refused-requires-2 : tie.Need-refused-requires-2
+refused-requires-2 : tie.Need-refused-requires-then-wrong-ne0-2
 refused-requires-2 c κs = search rules
 
-returns-2 : tie.Need-returns-2
+returns-2 : tie.Need-returns-then-wrong-ne0-2
 returns-2 c =
     let at = c.before.before in
     let start = entry at.before in
-    let wrong = c.before.if2.true in
-    refused_by_lem start.args.header (lists start) (asked start) start.args.bits.now _ _ c.refused2.ensures wrong
+    let wrong = c.if-wrong-ne0-2.true in
+    refused_by_lem start.args.header (lists start) (asked start) start.args.bits.now _ _ c.refused-then-wrong-ne0-2.ensures wrong
     (by_growth start.args.header (lists start) (asked start) start.args.bits.now
     _
-    at.before.before.check.ensures
-    at.before.if1.false
+    at.check-wrong.ensures
+    at.if-wrong-ne0.false
     _
-    (at.growth-refusal.ensures _ _ _)
+    (at.growth_refusal-wrong.ensures _ _ _)
     wrong)
 
-bits-short-requires : tie.Need-bits-short-requires
+bits-short-requires : tie.Need-bits_short-requires
 bits-short-requires c κs = search rules
 
-refused-requires-3 : tie.Need-refused-requires-3
+refused-requires-3 : tie.Need-refused-requires-then-bits_short
 refused-requires-3 c κs = search rules
 
 -- 42: the bits are fewer than the old buckets
 few
-    : (c : tie.Then3)
+    : (c : tie.Then-bits_short)
     → let start = entry c.before.before.before.before in
     64 * length start.args.bits.now < start.args.header.buckets
-few c = omega (arith, bits_few _ _ _ c.before.bits-short.ensures c.if3.true)
+few c = omega (arith, bits_few _ _ _ c.bits_short.ensures c.if-bits_short.true)
 
-returns-3 : tie.Need-returns-3
+returns-3 : tie.Need-returns-then-bits_short
 returns-3 c =
     let at = c.before.before.before.before in
     let start = entry at.before in
-    refused_by_lem start.args.header (lists start) (asked start) start.args.bits.now _ _ c.refused3.ensures
+    refused_by_lem start.args.header (lists start) (asked start) start.args.bits.now _ _ c.refused-then-bits_short.ensures
     (omega arith)
     (by_few start.args.header (lists start) (asked start) start.args.bits.now
     _
-    at.before.before.check.ensures
-    at.before.if1.false
+    at.check-wrong.ensures
+    at.if-wrong-ne0.false
     _
-    (at.growth-refusal.ensures _ _ _)
-    c.before.before.before.if2.false
+    (at.growth_refusal-wrong.ensures _ _ _)
+    c.if-wrong-ne0-2.false
     (few c.before))
 
 -- otherwise they are enough
 long
-    : (c : tie.Else3)
+    : (c : tie.Else-bits_short)
     → let start = entry c.before.before.before.before in
     start.args.header.buckets ≤ 64 * length start.args.bits.now
-long c = omega (arith, bits_long _ _ _ c.before.bits-short.ensures c.if3.false)
+long c = omega (arith, bits_long _ _ _ c.bits_short.ensures c.if-bits_short.false)
 
-written-moved-requires : tie.Need-written-moved-requires
+written-moved-requires : tie.Need-written_moved-count-requires
 written-moved-requires c κs = (formed c.before.before.before.before, (passed c.before.before, long c))
 
-returns-4 : tie.Need-returns-4
+returns-4 : tie.Need-returns
 returns-4 c =
     let at = c.before.before.before.before in
     let start = entry at.before in
     accepted_by start.args.header (lists start) (asked start) start.args.bits.now
     _
-    at.before.before.check.ensures
-    at.before.if1.false
+    at.check-wrong.ensures
+    at.if-wrong-ne0.false
     _
-    (at.growth-refusal.ensures _ _ _)
-    c.before.before.before.if2.false
+    (at.growth_refusal-wrong.ensures _ _ _)
+    c.if-wrong-ne0-2.false
     (long c.before)
     _
-    c.written-moved.ensures
+    c.written_moved-count.ensures
 
 pub written_relocations_spec : {M : Type 1} → statement M
 written_relocations_spec =

@@ -6,28 +6,34 @@ use Rattle.lines.proofs.asked.eight.Statement.{statement}
 use Rattle.lines.proofs.asked.eight.Tie as tie
 
 four-requires : tie.Need-four-requires
-four-requires c κs = let e = eight_at _ _ c.before.requires.0 c.before.requires.1 in (omega arith, e.first)
+four-requires c κs = let e = eight_at _ _ c.requires.0 c.requires.1 in (omega arith, e.first)
 
-mul-result : tie.Need-overflow-mul-result
-mul-result c = let e = eight_at _ _ c.before.before.requires.0 c.before.before.requires.1 in omega (arith, e.high)
+mul-result : tie.Need-overflow_mul-result
+mul-result c = let e = eight_at _ _ c.requires.0 c.requires.1 in omega (arith, e.high)
 
-add-four : tie.Need-overflow-add-four
+add-four : tie.Need-overflow_add-at
 add-four c = search rules
 
 four-requires-2 : tie.Need-four-requires-2
-four-requires-2 c κs = let e = eight_at _ _ c.before.before.requires.0 c.before.before.requires.1 in (omega arith, e.second)
+four-requires-2 c κs = let e = eight_at _ _ c.requires.0 c.requires.1 in (omega arith, e.second)
 
-add-result : tie.Need-overflow-add-result
+add-result : tie.Need-overflow_add-result
 add-result c =
-    let pre = c.before.before.before.requires in
+    let pre = c.requires in
     let e = eight_at _ _ pre.0 pre.1 in
     omega (arith, e.high, e.low)
 
 returns : tie.Need-returns
 returns c =
-    let pre = c.before.before.before.requires in
+    let pre = c.requires in
     let e = eight_at _ _ pre.0 pre.1 in
     omega (arith, e.is)
 
 pub eight_spec : {M : Type 1} → statement M
-eight_spec = tie.close (tie.spec four-requires mul-result add-four four-requires-2 add-result returns)
+eight_spec = tie.close (tie.spec
+    four-requires
+    mul-result
+    add-four
+    four-requires-2
+    add-result
+    returns)
