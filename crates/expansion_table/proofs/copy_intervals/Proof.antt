@@ -12,20 +12,20 @@ copy-requires-2 c κs = search rules
 copy-requires-3 : tie.Need-copy-requires-3
 copy-requires-3 c κs = search rules
 
-same_length : tie.Need-same-length
+same_length : tie.Need-shape_of-new_ends
 same_length c = search rules
 
-same-length-2 : tie.Need-same-length-2
+same-length-2 : tie.Need-shape_of-new_blocks
 same-length-2 c = search rules
 
-same-length-3 : tie.Need-same-length-3
+same-length-3 : tie.Need-shape_of-new_adjustments
 same-length-3 c = search rules
 
 returns : tie.Need-returns
 returns c = (
-  c.before.before.before.before.before.before.before.before.before.before.copy.ensures,
-  c.before.before.before.before.before.before.copy2.ensures,
-  c.before.before.copy3.ensures,
+  c.copy.ensures,
+  c.copy-2.ensures,
+  c.copy-3.ensures,
 )
 
 pub copy_intervals_spec : {M : Type 1} → statement M

@@ -24,7 +24,7 @@ z s = sizes s.args.buckets s.args.bins
 -- the room for the new intervals
 room
     : (s : tie.Start)
-    → Room (length (expanded (t s) (z s)).intervals) s.args.new-ends.now s.args.new-blocks.now s.args.new-adjustments.now
+    → Room (length (expanded (t s) (z s)).intervals) s.args.new_ends.now s.args.new_blocks.now s.args.new_adjustments.now
 room s =
     let (_, (room-lent, few)) = s.requires in
     let r = roomy _ room-lent in
@@ -34,7 +34,7 @@ room s =
       adjustments = omega (arith, r.adjustments);
     }
 
-write-tops-requires : tie.Need-write-tops-requires
+write-tops-requires : tie.Need-write_tops-requires
 write-tops-requires c κs =
     let start = c.before.before.before.before.before.before.before.before.before in
     let (grows, (room-lent, _)) = start.requires in (
@@ -48,7 +48,7 @@ write-tops-requires c κs =
       (roomy _ room-lent).tops,
     )
 
-write-intervals-requires : tie.Need-write-intervals-requires
+write-intervals-requires : tie.Need-write_intervals-requires
 write-intervals-requires c κs =
     let start = c.before.before.before.before.before.before.before.before.before.before.before.before.before.before.before in
     record {
@@ -57,16 +57,16 @@ write-intervals-requires c κs =
       holds = record { grows = start.requires.0; room = room start };
     }
 
-same_length : tie.Need-same-length
+same_length : tie.Need-shape_of-new_tops
 same_length c = search rules
 
-same-length-2 : tie.Need-same-length-2
+same-length-2 : tie.Need-shape_of-new_ends
 same-length-2 c = search rules
 
-same-length-3 : tie.Need-same-length-3
+same-length-3 : tie.Need-shape_of-new_blocks
 same-length-3 c = search rules
 
-same-length-4 : tie.Need-same-length-4
+same-length-4 : tie.Need-shape_of-new_adjustments
 same-length-4 c = search rules
 
 returns : tie.Need-returns
@@ -75,10 +75,10 @@ returns c =
     let tops = c.before.before.before.before.before.before.before.before.before.before.before.before in
     let start = tops.before.before.before.before.before.before.before.before.before.before in
     let grows = start.requires.0 in
-    let (counted, stored) = c.before.before.before.before.before.before.write-intervals.ensures _ _ grows in (
+    let (counted, stored) = c.write_intervals.ensures _ _ grows in (
       counted,
-      stored_written (expanded (t start) (z start)) start.args.new-tops.now _
-          (tops.write-tops.ensures (t start) (z start) refl refl grows.counted)
+      stored_written (expanded (t start) (z start)) start.args.new_tops.now _
+          (tops.write_tops.ensures (t start) (z start) refl refl grows.counted)
           stored
           (room start),
     )

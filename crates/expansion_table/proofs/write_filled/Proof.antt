@@ -38,7 +38,7 @@ room
     : (s : tie.Start)
     → let t = lent s.args.h s.requires.one s.args.ends.now s.args.blocks.now s.args.adjustments.now in
     Room (s.args.h.interval_count + length (pieces t s.requires.other (end s) 0 s.args.count))
-    s.args.new-ends.now s.args.new-blocks.now s.args.new-adjustments.now
+    s.args.new_ends.now s.args.new_blocks.now s.args.new_adjustments.now
 room s =
     let given = s.requires.holds in
     rw (reaches s, given.counted) (rw (filled_length _ _ s.requires.other given.fills.formed) at given.room)
@@ -46,52 +46,52 @@ room s =
 -- the old intervals but the last have room
 olds-room
     : (s : tie.Start)
-    → Room (s.args.h.interval_count - 1) s.args.new-ends.now s.args.new-blocks.now s.args.new-adjustments.now
+    → Room (s.args.h.interval_count - 1) s.args.new_ends.now s.args.new_blocks.now s.args.new_adjustments.now
 olds-room s = room_less (omega arith) (room s)
 
-cast-last : tie.Need-overflow-cast-last
+cast-last : tie.Need-overflow_cast-last
 cast-last c = search rules
 
-sub-last : tie.Need-overflow-sub-last
+sub-last : tie.Need-overflow_sub-last
 sub-last c = search rules
 
-mul-block : tie.Need-overflow-mul-block
+mul-block : tie.Need-offset_bounds-blocks-last
 mul-block c = search rules
 
-shared-slice-read-block : tie.Need-shared-slice-read-block
+shared-slice-read-block : tie.Need-bounds-blocks-last
 shared-slice-read-block c = search rules
 
-cast-end : tie.Need-overflow-cast-end
+cast-end : tie.Need-overflow_cast-end
 cast-end c = omega (arith, few c.before.before.before.before.before.before.before.before)
 
-mul-end : tie.Need-overflow-mul-end
+mul-end : tie.Need-offset_bounds-dues-block
 mul-end c = omega (arith, few c.before.before.before.before.before.before.before.before)
 
-element-copy-out-end : tie.Need-element-copy-out-end
-element-copy-out-end c = few c.before.before.before.before.before.before.before.before
+element-copy-out-end : tie.Need-bounds-dues-block
+element-copy-out-end c = few c.before.before.before.before.before.before.before.before.before
 
-cast-end-2 : tie.Need-overflow-cast-end-2
-cast-end-2 c = omega (arith, few c.before.before.before.before.before.before.before.before.before)
+cast-end-2 : tie.Need-overflow_cast-end-2
+cast-end-2 c = omega (arith, few c.before.before.before.before.before.before.before.before.before.before)
 
-mul-end-2 : tie.Need-overflow-mul-end-2
-mul-end-2 c = omega (arith, few c.before.before.before.before.before.before.before.before.before)
+mul-end-2 : tie.Need-offset_bounds-olds-block
+mul-end-2 c = omega (arith, few c.before.before.before.before.before.before.before.before.before.before)
 
-element-copy-out-end-2 : tie.Need-element-copy-out-end-2
-element-copy-out-end-2 c = few c.before.before.before.before.before.before.before.before.before
+element-copy-out-end-2 : tie.Need-bounds-olds-block
+element-copy-out-end-2 c = few c.before.before.before.before.before.before.before.before.before.before.before
 
-sub-end : tie.Need-overflow-sub-end
+sub-end : tie.Need-overflow_sub-end
 sub-end c =
-    let start = c.before.before.before.before.before.before.before.before.before.before in
+    let start = c.before.before.before.before.before.before.before.before.before.before.before.before in
     omega (arith, gain_from _ _ _ _ _ start.requires.holds.fills (block start) (few start))
 
-add-end : tie.Need-overflow-add-end
+add-end : tie.Need-overflow_add-end
 add-end c =
-    let start = c.before.before.before.before.before.before.before.before.before.before.before in
+    let start = c.before.before.before.before.before.before.before.before.before.before.before.before.before in
     omega (arith, reaches start, end_most _ _ _ _ _ start.requires.holds.fills, start.requires.holds.fits)
 
-copy-intervals-requires : tie.Need-copy-intervals-requires
+copy-intervals-requires : tie.Need-copy_intervals-requires
 copy-intervals-requires c κs =
-    let start = c.before.before.before.before.before.before.before.before.before.before.before.before.before.before in
+    let start = c.before.before.before.before.before.before.before.before.before.before.before.before.before.before.before.before in
     let formed = start.requires.holds.fills.formed in (
       omega (arith, formed.interval_limit),
       (
@@ -104,41 +104,41 @@ copy-intervals-requires c κs =
       ),
     )
 
-mul-write-interval : tie.Need-overflow-mul-write-interval
+mul-write-interval : tie.Need-offset_bounds-adjustments-last
 mul-write-interval c = search rules
 
-shared-slice-read-write-interval : tie.Need-shared-slice-read-write-interval
+shared-slice-read-write-interval : tie.Need-bounds-adjustments-last
 shared-slice-read-write-interval c = search rules
 
-write-interval-requires : tie.Need-write-interval-requires
+write-interval-requires : tie.Need-write_interval-requires
 write-interval-requires c κs =
     let copied = c.before.before.before.before.before.before.before.before.before.before in
-    let start = copied.before.before.before.before.before.before.before.before.before.before.before.before.before.before.before in
+    let start = copied.before.before.before.before.before.before.before.before.before.before.before.before.before.before.before.before.before in
     let fills = start.requires.holds.fills in
     let some = fills.formed.some_intervals in
     room_less (omega arith)
-    (stored_room (old_stored _ _ _ _ _ fills (olds-room start) copied.copy-intervals.ensures) (room start))
+    (stored_room (old_stored _ _ _ _ _ fills (olds-room start) copied.copy_intervals.ensures) (room start))
 
-cast-write-pieces : tie.Need-overflow-cast-write-pieces
+cast-write-pieces : tie.Need-overflow_cast-h
 cast-write-pieces c = search rules
 
-write-pieces-requires : tie.Need-write-pieces-requires
+write-pieces-requires : tie.Need-write_pieces-requires
 write-pieces-requires c κs =
     let longer = c.before.before.before.before.before.before.before.before.before.before in
     let copied = longer.before.before.before.before.before.before.before.before.before.before.before in
-    let start = copied.before.before.before.before.before.before.before.before.before.before.before.before.before.before.before in
+    let start = copied.before.before.before.before.before.before.before.before.before.before.before.before.before.before.before.before.before in
     let given = start.requires.holds in
     pieces_into _ _ _ _ _ given.fills _ _ (reaches start) given.counted given.fits
-    (stored_room longer.write-interval.ensures
-    (stored_room (old_stored _ _ _ _ _ given.fills (olds-room start) copied.copy-intervals.ensures) (room start)))
+    (stored_room longer.write_interval.ensures
+    (stored_room (old_stored _ _ _ _ _ given.fills (olds-room start) copied.copy_intervals.ensures) (room start)))
 
-same_length : tie.Need-same-length
+same_length : tie.Need-shape_of-new_ends
 same_length c = search rules
 
-same-length-2 : tie.Need-same-length-2
+same-length-2 : tie.Need-shape_of-new_blocks
 same-length-2 c = search rules
 
-same-length-3 : tie.Need-same-length-3
+same-length-3 : tie.Need-shape_of-new_adjustments
 same-length-3 c = search rules
 
 returns : tie.Need-returns
@@ -146,12 +146,12 @@ returns c tops s fills counted =
     let pieced = c.before.before.before.before.before.before in
     let longer = pieced.before.before.before.before.before.before.before.before.before.before.before in
     let copied = longer.before.before.before.before.before.before.before.before.before.before.before in
-    let start = copied.before.before.before.before.before.before.before.before.before.before.before.before.before.before.before in
-    let pieces = pieced.write-pieces.ensures _ s (fills_shares _ _ _ _ _ fills) in (
+    let start = copied.before.before.before.before.before.before.before.before.before.before.before.before.before.before.before.before.before in
+    let pieces = pieced.write_pieces.ensures _ s (fills_shares _ _ _ _ _ fills) in (
       omega (arith, pieces.0, filled_pieces _ _ _ _ _ fills (end start) _ (end_filled _ _ _ _ _ fills) counted),
       filled_stored _ _ _ _ _ fills (end start) _ (end_filled _ _ _ _ _ fills) counted
-          (old_stored _ _ _ _ _ fills (olds-room start) copied.copy-intervals.ensures)
-          longer.write-interval.ensures
+          (old_stored _ _ _ _ _ fills (olds-room start) copied.copy_intervals.ensures)
+          longer.write_interval.ensures
           pieces.1,
     )
 

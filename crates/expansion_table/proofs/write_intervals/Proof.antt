@@ -12,11 +12,11 @@ use borrow.Author.Rules.{rules}
 use Rattle.expansion_table.proofs.write_intervals.Statement.{statement}
 use Rattle.expansion_table.proofs.write_intervals.Tie as tie
 
-write-drained-requires : tie.Need-write-drained-requires
+write-drained-requires : tie.Need-write_drained-requires
 write-drained-requires c κs =
-    let given = c.before.before.before.before.before.before.before.before.before.before.requires in
+    let given = c.requires in
     let grows = given.holds.grows in
-    let falls = sym grows.falling ∙ c.before.before.before.if1.true in
+    let falls = sym grows.falling ∙ c.if-falls.true in
     record {
       one = given.one;
       other = given.other;
@@ -26,19 +26,19 @@ write-drained-requires c κs =
       };
     }
 
-same_length : tie.Need-same-length
+same_length : tie.Need-shape_of-new_ends-then-falls
 same_length c = search rules
 
-same-length-2 : tie.Need-same-length-2
+same-length-2 : tie.Need-shape_of-new_blocks-then-falls
 same-length-2 c = search rules
 
-same-length-3 : tie.Need-same-length-3
+same-length-3 : tie.Need-shape_of-new_adjustments-then-falls
 same-length-3 c = search rules
 
-returns : tie.Need-returns
+returns : tie.Need-returns-then-falls
 returns c tops bins g =
-    let falls = sym g.falling ∙ c.before.before.before.before.before.before.before.before.before.before.if1.true in
-    let (counted, stored) = c.before.before.before.before.before.before.write-drained.ensures tops bins (grows_drains g) in
+    let falls = sym g.falling ∙ c.if-falls.true in
+    let (counted, stored) = c.write_drained.ensures tops bins (grows_drains g) in
     let moves = counted.moved ∙ drained_moves _ _ _ g.formed g.asked falls in (
       record {
         intervals = counted.intervals ∙ sym (drained_count _ _ _ g.formed g.asked falls);
@@ -48,11 +48,11 @@ returns c tops bins g =
       rw (expanded_drained _ (sizes _ bins) falls) stored,
     )
 
-write-filled-requires : tie.Need-write-filled-requires
+write-filled-requires : tie.Need-write_filled-intervals-requires
 write-filled-requires c κs =
     let start = c.before.before.before.before.before.before.before.before.before.before in
     let given = start.requires.holds in
-    let fills = grows_fills given.grows c.before.before.before.if1.false in
+    let fills = grows_fills given.grows c.if-falls.false in
     record {
       one = start.requires.one;
       other = sizes start.args.buckets start.requires.other;
@@ -64,36 +64,36 @@ write-filled-requires c κs =
       };
     }
 
-cast-t27 : tie.Need-overflow-cast-t27
+cast-t27 : tie.Need-overflow_cast-result
 cast-t27 c =
     let written = c.before.before.before.before.before.before in
     let start = written.before.before.before.before.before.before.before.before.before.before.before in
     let g = start.requires.holds.grows in
-    let fills = grows_fills g written.before.before.before.before.if1.false in
+    let fills = grows_fills g written.if-falls.false in
     let s = sizes start.args.buckets start.requires.other in
     omega (
       arith,
-      (written.write-filled.ensures _ s fills g.counted).0,
+      (written.write_filled-intervals.ensures _ s fills g.counted).0,
       filled_most _ _ s g.formed,
       g.counted,
       blocks_few _ _ _ _ _ fills _ g.counted,
       g.formed.interval_limit,
     )
 
-same-length-4 : tie.Need-same-length-4
+same-length-4 : tie.Need-shape_of-new_ends
 same-length-4 c = search rules
 
-same-length-5 : tie.Need-same-length-5
+same-length-5 : tie.Need-shape_of-new_blocks
 same-length-5 c = search rules
 
-same-length-6 : tie.Need-same-length-6
+same-length-6 : tie.Need-shape_of-new_adjustments
 same-length-6 c = search rules
 
-returns-2 : tie.Need-returns-2
+returns-2 : tie.Need-returns
 returns-2 c tops bins g =
     let written = c.before.before.before.before.before.before in
-    let fills = grows_fills g written.before.before.before.before.if1.false in
-    let (place, stored) = written.write-filled.ensures tops _ fills g.counted in
+    let fills = grows_fills g written.if-falls.false in
+    let (place, stored) = written.write_filled-intervals.ensures tops _ fills g.counted in
     let same = expanded_filled _ (sizes _ bins) fills.none in
     let moves = filled_moves _ _ _ g.formed g.asked fills.none in (
       record {

@@ -12,7 +12,7 @@ use Rattle.file_judged.proofs.load_alone.Statement.{statement}
 use Rattle.file_judged.proofs.load_alone.Tie as tie
 
 -- the decoding before the rules, and the function's entry
-abbrev decoding : tie.After-judged-alone → tie.After-decode
+abbrev decoding : tie.After-judged_alone-refusal → tie.After-decode
 decoding c = c.before.before.before.before.before.before.before.before
 
 abbrev entry : tie.After-decode → tie.Start
@@ -21,8 +21,8 @@ entry c = c.before.before.before.before.before.before.before.before.before
 -- the decoded arrays are the file's
 same
     : (c : tie.After-decode)
-    → let own = c.decode.new.1.1 in
-    arrays own.0 own.1.0 own.1.1.0 [] ≡ file_arrays (entry c).args.f.now (alone (entry c).args.buckets (entry c).args.capacity)
+    → let own = c.decode.new in
+    arrays own.tops own.ends own.blocks [] ≡ file_arrays (entry c).args.f.now (alone (entry c).args.buckets (entry c).args.capacity)
 same c =
     let d = c.decode.ensures in
     λ i.
@@ -32,66 +32,66 @@ same c =
     (filled _ _ _ d.1.1 (length_from _ _ _) i)
     []
 
-slice-aggregate-decode : tie.Need-slice-aggregate-decode
+slice-aggregate-decode : tie.Need-slice_bounds-decode-end
 slice-aggregate-decode c = search rules
 
-slice-aggregate-decode-2 : tie.Need-slice-aggregate-decode-2
+slice-aggregate-decode-2 : tie.Need-slice_bounds-decode-end-2
 slice-aggregate-decode-2 c = search rules
 
-slice-aggregate-decode-3 : tie.Need-slice-aggregate-decode-3
+slice-aggregate-decode-3 : tie.Need-slice_bounds-decode-end-3
 slice-aggregate-decode-3 c = search rules
 
 decode-requires : tie.Need-decode-requires
 decode-requires c κs = search rules
 
-slice-aggregate-judged-alone : tie.Need-slice-aggregate-judged-alone
+slice-aggregate-judged-alone : tie.Need-slice_bounds-judged_alone-end
 slice-aggregate-judged-alone c = search rules
 
-slice-aggregate-judged-alone-2 : tie.Need-slice-aggregate-judged-alone-2
+slice-aggregate-judged-alone-2 : tie.Need-slice_bounds-judged_alone-end-2
 slice-aggregate-judged-alone-2 c = search rules
 
-slice-aggregate-judged-alone-3 : tie.Need-slice-aggregate-judged-alone-3
+slice-aggregate-judged-alone-3 : tie.Need-slice_bounds-judged_alone-end-3
 slice-aggregate-judged-alone-3 c = search rules
 
-slice-aggregate-judged-alone-4 : tie.Need-slice-aggregate-judged-alone-4
+slice-aggregate-judged-alone-4 : tie.Need-slice_bounds-judged_alone-end-4
 slice-aggregate-judged-alone-4 c = search rules
 
-judged-alone-requires : tie.Need-judged-alone-requires
+judged-alone-requires : tie.Need-judged_alone-refusal-requires
 judged-alone-requires c κs = search rules
 
-returns : tie.Need-returns
+returns : tie.Need-returns-then-refusal-ne0
 returns c =
     let k = decoding c.before in
-    loaded_refused _ _ _ (entry k).pre _ _ _
-    (alone_completed _ _ _ _ _ _ _ _ (same k) (omega arith) c.before.judged-alone.ensures) _ c.if1.true
+    loaded_refused _ _ _ (entry k).requires _ _ _
+    (alone_completed _ _ _ _ _ _ _ _ (same k) (omega arith) c.judged_alone-refusal.ensures) _ c.if-refusal-ne0.true
 
-slice-aggregate-load-judged : tie.Need-slice-aggregate-load-judged
+slice-aggregate-load-judged : tie.Need-slice_bounds-load_judged-end
 slice-aggregate-load-judged c = search rules
 
-slice-aggregate-load-judged-2 : tie.Need-slice-aggregate-load-judged-2
+slice-aggregate-load-judged-2 : tie.Need-slice_bounds-load_judged-end-2
 slice-aggregate-load-judged-2 c = search rules
 
-load-judged-requires : tie.Need-load-judged-requires
+load-judged-requires : tie.Need-load_judged-requires
 load-judged-requires c κs =
     let passed = c.before.before.before.before.before.before in
     let k = decoding passed.before in
-    completed_judged _ _ _ (entry k).pre _ _ _
-    (alone_completed _ _ _ _ _ _ _ _ (same k) (omega arith) passed.before.judged-alone.ensures) passed.if1.false _
+    completed_judged _ _ _ (entry k).requires _ _ _
+    (alone_completed _ _ _ _ _ _ _ _ (same k) (omega arith) passed.before.judged_alone-refusal.ensures) passed.if-refusal-ne0.false _
     (ap (λ (a : Arrays). a.tops) (same k)) (omega arith)
 
-same_length : tie.Need-same-length
+same_length : tie.Need-shape_of-tops
 same_length c = search rules
 
-same-length-2 : tie.Need-same-length-2
+same-length-2 : tie.Need-shape_of-ends
 same-length-2 c = search rules
 
-same-length-3 : tie.Need-same-length-3
+same-length-3 : tie.Need-shape_of-blocks
 same-length-3 c = search rules
 
-same-length-4 : tie.Need-same-length-4
+same-length-4 : tie.Need-shape_of-adjustments
 same-length-4 c = search rules
 
-returns-2 : tie.Need-returns-2
+returns-2 : tie.Need-returns
 returns-2 c = search rules
 
 pub load_alone_spec : {M : Type 1} → statement M

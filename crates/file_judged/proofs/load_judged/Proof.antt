@@ -5,39 +5,39 @@ use Rattle.file_judged.proofs.load_judged.Statement.{statement}
 use Rattle.file_judged.proofs.load_judged.Tie as tie
 
 -- the function's entry, from after the test of 30
-abbrev entry : tie.After-capacity-wrong → tie.Start
+abbrev entry : tie.After-capacity_wrong → tie.Start
 entry c = c.before.before.before.before.before.before.before.before
 
-capacity-wrong-requires : tie.Need-capacity-wrong-requires
-capacity-wrong-requires c κs = judged_tops _ _ _ _ _ c.before.before.before.before.before.before.before.requires
+capacity-wrong-requires : tie.Need-capacity_wrong-requires
+capacity-wrong-requires c κs = judged_tops _ _ _ _ _ c.requires
 
-returns : tie.Need-returns
+returns : tie.Need-returns-then-capacity_wrong
 returns c =
     let told = c.before in
-    judged_refused _ _ _ _ _ (entry told).requires _ told.capacity-wrong.ensures c.if1.true _
+    judged_refused _ _ _ _ _ (entry told).requires _ told.capacity_wrong.ensures c.if-capacity_wrong.true _
 
-write-out-requires : tie.Need-write-out-requires
+write-out-requires : tie.Need-write_out-requires
 write-out-requires c κs =
     let judged = (entry c.before.before.before.before.before).requires in (judged.opened, judged.long)
 
-same_length : tie.Need-same-length
+same_length : tie.Need-shape_of-tops
 same_length c = search rules
 
-same-length-2 : tie.Need-same-length-2
+same-length-2 : tie.Need-shape_of-ends
 same-length-2 c = search rules
 
-same-length-3 : tie.Need-same-length-3
+same-length-3 : tie.Need-shape_of-blocks
 same-length-3 c = search rules
 
-same-length-4 : tie.Need-same-length-4
+same-length-4 : tie.Need-shape_of-adjustments
 same-length-4 c = search rules
 
-returns-2 : tie.Need-returns-2
+returns-2 : tie.Need-returns
 returns-2 c =
     let written = c.before.before.before.before.before.before.before.before in
     let passed = written.before.before.before.before.before in
     let told = passed.before in
-    judged_accepted _ _ _ _ _ (entry told).requires _ told.capacity-wrong.ensures passed.if1.false _ _ written.write-out.ensures
+    judged_accepted _ _ _ _ _ (entry told).requires _ told.capacity_wrong.ensures passed.if-capacity_wrong.false _ _ written.write_out.ensures
 
 pub load_judged_spec : {M : Type 1} → statement M
 load_judged_spec =

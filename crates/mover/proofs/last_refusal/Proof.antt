@@ -4,18 +4,21 @@ use Rattle.model.proofs.Refusals.{first_here, first_skip, first_none}
 use Rattle.mover.proofs.last_refusal.Statement.{statement}
 use Rattle.mover.proofs.last_refusal.Tie as tie
 
-returns : tie.Need-returns
-returns c = sym (first_here (40, c.before.args.short) _ c.if1.true)
+returns : tie.Need-returns-then-short
+returns c = sym (first_here (40, c.args.short) _ c.if-short.true)
 
-returns-2 : tie.Need-returns-2
-returns-2 c = sym (first_skip (40, c.before.before.args.short) _ c.before.if1.false ∙ first_here (41, c.before.before.args.past) _ c.if2.true)
+returns-2 : tie.Need-returns-then-past
+returns-2 c = sym (first_skip (40, c.args.short) _ c.if-short.false ∙ first_here (41, c.args.past) _ c.if-past.true)
 
-returns-3 : tie.Need-returns-3
+returns-3 : tie.Need-returns
 returns-3 c =
     sym
-    (first_skip (40, c.before.before.args.short) _ c.before.if1.false
-    ∙ first_skip (41, c.before.before.args.past) _ c.if2.false
+    (first_skip (40, c.args.short) _ c.if-short.false
+    ∙ first_skip (41, c.args.past) _ c.if-past.false
     ∙ first_none)
 
 pub last_refusal_spec : {M : Type 1} → statement M
-last_refusal_spec = tie.close (tie.spec returns returns-2 returns-3)
+last_refusal_spec = tie.close (tie.spec
+    returns
+    returns-2
+    returns-3)
