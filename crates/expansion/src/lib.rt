@@ -40,9 +40,9 @@ fn accepted<'a>(
     new_adjustments: &mut [u32],
 ) -> TableReply
     requires grows { Grows header ends.now blocks.now adjustments.now buckets olds.now dues.now falls block_count tops.now bins }
-    requires room { room_short (arrays_now new_tops new_ends new_blocks new_adjustments) ≡ false }
-    ensures { GrowReply (table_given header tops ends blocks adjustments) (sizes buckets bins)
-        (given new_tops new_ends new_blocks new_adjustments) (left new_tops new_ends new_blocks new_adjustments) result }
+    requires room { room_short (arrays new_tops.old new_ends.old new_blocks.old new_adjustments.old) ≡ false }
+    ensures { GrowReply (lent header tops.now ends.now blocks.now adjustments.now) (sizes buckets bins)
+        (arrays new_tops.old new_ends.old new_blocks.old new_adjustments.old) (arrays new_tops.new new_ends.new new_blocks.new new_adjustments.new) result }
 {
     let full = expansion_count::intervals_full(
         header,

@@ -4,62 +4,62 @@ use borrow.Author.Rules.{rules}
 use Rattle.file_load.proofs.load_sized.Statement.{statement}
 use Rattle.file_load.proofs.load_sized.Tie as tie
 
-cast-intervals : tie.Need-overflow-cast-intervals
+cast-intervals : tie.Need-overflow_cast-intervals
 cast-intervals c = search rules
 
-load-many-requires : tie.Need-load-many-requires
+load-many-requires : tie.Need-load_many-requires
 load-many-requires c κs = search rules
 
-same_length : tie.Need-same-length
+same_length : tie.Need-shape_of-tops-then-intervals-gt-SOME
 same_length c = search rules
 
-same-length-2 : tie.Need-same-length-2
+same-length-2 : tie.Need-shape_of-ends-then-intervals-gt-SOME
 same-length-2 c = search rules
 
-same-length-3 : tie.Need-same-length-3
+same-length-3 : tie.Need-shape_of-blocks-then-intervals-gt-SOME
 same-length-3 c = search rules
 
-same-length-4 : tie.Need-same-length-4
+same-length-4 : tie.Need-shape_of-adjustments-then-intervals-gt-SOME
 same-length-4 c = search rules
 
-returns : tie.Need-returns
-returns c = c.before.before.before.before.before.before.before.before.Load-many.ensures
+returns : tie.Need-returns-then-intervals-gt-SOME
+returns c = c.load_many.ensures
 
-load-some-requires : tie.Need-load-some-requires
-load-some-requires c κs = (c.before.before.before.before.before.before.before.before.before.before.before.before.requires, omega arith)
+load-some-requires : tie.Need-load_some-requires
+load-some-requires c κs = (c.requires, omega arith)
 
-same-length-5 : tie.Need-same-length-5
+same-length-5 : tie.Need-shape_of-tops-then-intervals-gt-FEW
 same-length-5 c = search rules
 
-same-length-6 : tie.Need-same-length-6
+same-length-6 : tie.Need-shape_of-ends-then-intervals-gt-FEW
 same-length-6 c = search rules
 
-same-length-7 : tie.Need-same-length-7
+same-length-7 : tie.Need-shape_of-blocks-then-intervals-gt-FEW
 same-length-7 c = search rules
 
-same-length-8 : tie.Need-same-length-8
+same-length-8 : tie.Need-shape_of-adjustments-then-intervals-gt-FEW
 same-length-8 c = search rules
 
-returns-2 : tie.Need-returns-2
-returns-2 c = c.before.before.before.before.before.before.before.before.load-some.ensures
+returns-2 : tie.Need-returns-then-intervals-gt-FEW
+returns-2 c = c.load_some.ensures
 
-load-few-requires : tie.Need-load-few-requires
-load-few-requires c κs = (c.before.before.before.before.before.before.before.before.before.before.before.before.requires, omega arith)
+load-few-requires : tie.Need-load_few-requires
+load-few-requires c κs = (c.requires, omega arith)
 
-same-length-9 : tie.Need-same-length-9
+same-length-9 : tie.Need-shape_of-tops
 same-length-9 c = search rules
 
-same-length-10 : tie.Need-same-length-10
+same-length-10 : tie.Need-shape_of-ends
 same-length-10 c = search rules
 
-same-length-11 : tie.Need-same-length-11
+same-length-11 : tie.Need-shape_of-blocks
 same-length-11 c = search rules
 
-same-length-12 : tie.Need-same-length-12
+same-length-12 : tie.Need-shape_of-adjustments
 same-length-12 c = search rules
 
-returns-3 : tie.Need-returns-3
-returns-3 c = c.before.before.before.before.before.before.before.before.load-few.ensures
+returns-3 : tie.Need-returns
+returns-3 c = c.load_few.ensures
 
 pub load_sized_spec : {M : Type 1} → statement M
 load_sized_spec =

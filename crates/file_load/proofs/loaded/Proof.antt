@@ -10,81 +10,81 @@ use borrow.Author.Rules.{rules}
 use Rattle.file_load.proofs.loaded.Statement.{statement}
 use Rattle.file_load.proofs.loaded.Tie as tie
 
-file-wrong-requires : tie.Need-file-wrong-requires
+file-wrong-requires : tie.Need-file_wrong-requires
 file-wrong-requires c κs = search rules
 
-returns : tie.Need-returns
-returns c = file_refused _ _ _ (sym c.before.file-wrong.ensures ∙ c.if1.true)
+returns : tie.Need-returns-then-file_wrong
+returns c = file_refused _ _ _ (sym c.file_wrong.ensures ∙ c.if-file_wrong.true)
 
 -- the file passes 11
-abbrev start : tie.Else1 → tie.Start
+abbrev start : tie.Else-file_wrong → tie.Start
 start c = c.before.before.before.before.before.before.before
 
-passes : (c : tie.Else1) → file_wrong (start c).args.f.now (start c).args.capacity ≡ false
-passes c = sym c.before.file-wrong.ensures ∙ c.if1.false
+passes : (c : tie.Else-file_wrong) → file_wrong (start c).args.f.now (start c).args.capacity ≡ false
+passes c = sym c.file_wrong.ensures ∙ c.if-file_wrong.false
 
 ready
-    : (c : tie.After-header-of)
-    → Opened (start c.before).args.f.now c.header_of.result
+    : (c : tie.After-header_of-h)
+    → Opened (start c.before).args.f.now c.header_of-h.result
     (arrays
     (start c.before).args.tops.now
     (start c.before).args.ends.now
     (start c.before).args.blocks.now
     (start c.before).args.adjustments.now)
-ready c = opened _ _ _ _ c.header_of.ensures (passes c.before) (start c.before).requires
+ready c = opened _ _ _ _ c.header_of-h.ensures (passes c.before) (start c.before).requires
 
-header-of-requires : tie.Need-header-of-requires
+header-of-requires : tie.Need-header_of-h-requires
 header-of-requires c κs = let k = counted _ _ _ refl (passes c) in omega arith
 
-load-alone-requires : tie.Need-load-alone-requires
+load-alone-requires : tie.Need-load_alone-refusal-requires
 load-alone-requires c κs =
     let k = c.before.before.before.before in
-    opened_alone _ _ _ (ready k.before.before.before.before) k.if3.true k.before.before.if2.true
+    opened_alone _ _ _ (ready k.before.before.before.before) k.if-h-eq1-2.true k.if-h-eq1.true
 
 reply-requires : tie.Need-reply-requires
 reply-requires c κs = search rules
 
-same_length : tie.Need-same-length
+same_length : tie.Need-shape_of-tops-then-h-eq1-2
 same_length c = search rules
 
-same-length-2 : tie.Need-same-length-2
+same-length-2 : tie.Need-shape_of-ends-then-h-eq1-2
 same-length-2 c = search rules
 
-same-length-3 : tie.Need-same-length-3
+same-length-3 : tie.Need-shape_of-blocks-then-h-eq1-2
 same-length-3 c = search rules
 
-same-length-4 : tie.Need-same-length-4
+same-length-4 : tie.Need-shape_of-adjustments-then-h-eq1-2
 same-length-4 c = search rules
 
-returns-2 : tie.Need-returns-2
+returns-2 : tie.Need-returns-then-h-eq1-2
 returns-2 c =
     let called = c.before.before.before.before.before.before.before.before.before in
     let opening = called.before.before.before.before.before.before.before.before.before in
-    loaded_replied _ _ _ _ _ _ _ opening.header_of.ensures called.load-alone.ensures c.reply.ensures
+    loaded_replied _ _ _ _ _ _ _ opening.header_of-h.ensures called.load_alone-refusal.ensures c.reply.ensures
 
-load-sized-requires : tie.Need-load-sized-requires
+load-sized-requires : tie.Need-load_sized-refusal-requires
 load-sized-requires c κs = ready c.before.before.before.before.before.before
 
 reply-requires-2 : tie.Need-reply-requires-2
 reply-requires-2 c κs = search rules
 
-same-length-5 : tie.Need-same-length-5
+same-length-5 : tie.Need-shape_of-tops
 same-length-5 c = search rules
 
-same-length-6 : tie.Need-same-length-6
+same-length-6 : tie.Need-shape_of-ends
 same-length-6 c = search rules
 
-same-length-7 : tie.Need-same-length-7
+same-length-7 : tie.Need-shape_of-blocks
 same-length-7 c = search rules
 
-same-length-8 : tie.Need-same-length-8
+same-length-8 : tie.Need-shape_of-adjustments
 same-length-8 c = search rules
 
-returns-3 : tie.Need-returns-3
+returns-3 : tie.Need-returns
 returns-3 c =
     let called = c.before.before.before.before.before.before.before.before.before in
     let opening = called.before.before.before.before.before.before.before in
-    loaded_replied _ _ _ _ _ _ _ opening.header_of.ensures called.load_sized.ensures c.reply2.ensures
+    loaded_replied _ _ _ _ _ _ _ opening.header_of-h.ensures called.load_sized-refusal.ensures c.reply-2.ensures
 
 pub loaded_spec : {M : Type 1} → statement M
 loaded_spec =

@@ -4,11 +4,13 @@ use Rattle.model.proofs.Refusals.{accepted, refused}
 use Rattle.file_load.proofs.reply.Statement.{statement}
 use Rattle.file_load.proofs.reply.Tie as tie
 
-returns : tie.Need-returns
-returns c = ap (λ r. record { refusal = r; header = c.before.args.h }) c.if1.true ∙ sym (accepted _ _ _ c.if1.true)
+returns : tie.Need-returns-then-refusal-eq0
+returns c = ap (λ r. record { refusal = r; header = c.args.h }) c.if-refusal-eq0.true ∙ sym (accepted _ _ _ c.if-refusal-eq0.true)
 
-returns-2 : tie.Need-returns-2
-returns-2 c = sym (refused _ _ _ c.if1.false)
+returns-2 : tie.Need-returns
+returns-2 c = sym (refused _ _ _ c.if-refusal-eq0.false)
 
 pub reply_spec : {M : Type 1} → statement M
-reply_spec = tie.close (tie.spec returns returns-2)
+reply_spec = tie.close (tie.spec
+    returns
+    returns-2)
