@@ -8,25 +8,31 @@ use borrow.Author.Rules.{rules}
 use Rattle.irr.proofs.bin_size.Statement.{statement}
 use Rattle.irr.proofs.bin_size.Tie as tie
 
-arrays-short-requires : tie.Need-arrays-short-requires
+arrays-short-requires : tie.Need-arrays_short-requires
 arrays-short-requires c κs = search rules
 
-returns : tie.Need-returns
-returns c = size_refused _ _ _ (short_refused _ _ (sym c.before.arrays-short.ensures ∙ c.if1.true)) _ (λ e. omega arith)
+returns : tie.Need-returns-then-arrays_short
+returns c = size_refused _ _ _ (short_refused _ _ (sym c.arrays_short.ensures ∙ c.if-arrays_short.true)) _ (λ e. omega arith)
 
-check-requires : tie.Need-check-requires
+check-requires : tie.Need-check-refusal-requires
 check-requires c κs = search rules
 
-returns-2 : tie.Need-returns-2
-returns-2 c = size_refused _ _ _ c.before.check.ensures _ c.if2.true
+returns-2 : tie.Need-returns-then-refusal-ne0
+returns-2 c = size_refused _ _ _ c.check-refusal.ensures _ c.if-refusal-ne0.true
 
 sized-requires : tie.Need-sized-requires
-sized-requires c κs = lent_tops _ _ (checked _ _ _ c.before.check.ensures c.if2.false)
+sized-requires c κs = lent_tops _ _ (checked _ _ _ c.check-refusal.ensures c.if-refusal-ne0.false)
 
-returns-3 : tie.Need-returns-3
+returns-3 : tie.Need-returns
 returns-3 c =
-    let sound = c.before.before.check.ensures in
-    c.sized.ensures _ _ _ (checked _ _ _ sound c.before.if2.false) ∙ size_accepted _ _ _ sound _ c.before.if2.false
+    let sound = c.check-refusal.ensures in
+    c.sized.ensures _ _ _ (checked _ _ _ sound c.if-refusal-ne0.false) ∙ size_accepted _ _ _ sound _ c.if-refusal-ne0.false
 
 pub bin_size_spec : {M : Type 1} → statement M
-bin_size_spec = tie.close (tie.spec arrays-short-requires returns check-requires returns-2 sized-requires returns-3)
+bin_size_spec = tie.close (tie.spec
+    arrays-short-requires
+    returns
+    check-requires
+    returns-2
+    sized-requires
+    returns-3)

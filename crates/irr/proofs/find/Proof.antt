@@ -6,17 +6,21 @@ use borrow.Author.Rules.{rules}
 use Rattle.irr.proofs.find.Statement.{statement}
 use Rattle.irr.proofs.find.Tie as tie
 
-check-requires : tie.Need-check-requires
+check-requires : tie.Need-check-refusal-requires
 check-requires c κs = search rules
 
-returns : tie.Need-returns
-returns c = find_refused_lem _ _ _ c.before.check.ensures _ _ c.if1.true
+returns : tie.Need-returns-then-refusal-ne0
+returns c = find_refused_lem _ _ _ c.check-refusal.ensures _ _ c.if-refusal-ne0.true
 
 found-requires : tie.Need-found-requires
-found-requires c κs = checked _ _ _ c.before.check.ensures c.if1.false
+found-requires c κs = checked _ _ _ c.check-refusal.ensures c.if-refusal-ne0.false
 
-returns-2 : tie.Need-returns-2
-returns-2 c = c.found.ensures ∙ find_accepted _ _ _ c.before.before.check.ensures _ _ c.before.if1.false
+returns-2 : tie.Need-returns
+returns-2 c = c.found.ensures ∙ find_accepted _ _ _ c.check-refusal.ensures _ _ c.if-refusal-ne0.false
 
 pub find_spec : {M : Type 1} → statement M
-find_spec = tie.close (tie.spec check-requires returns found-requires returns-2)
+find_spec = tie.close (tie.spec
+    check-requires
+    returns
+    found-requires
+    returns-2)

@@ -5,23 +5,28 @@ use borrow.Author.Rules.{rules}
 use Rattle.irr.proofs.relocations.Statement.{statement}
 use Rattle.irr.proofs.relocations.Tie as tie
 
-check-requires : tie.Need-check-requires
+check-requires : tie.Need-check-refusal-requires
 check-requires c κs = search rules
 
-returns : tie.Need-returns
-returns c = list_refused _ _ _ c.before.check.ensures _ _ _ c.if1.true
+returns : tie.Need-returns-then-refusal-ne0
+returns c = list_refused _ _ _ c.check-refusal.ensures _ _ _ c.if-refusal-ne0.true
 
 relocated-requires : tie.Need-relocated-requires
-relocated-requires c κs = checked _ _ _ c.before.before.check.ensures c.before.if1.false
+relocated-requires c κs = checked _ _ _ c.check-refusal.ensures c.if-refusal-ne0.false
 
-same_length : tie.Need-same-length
+same_length : tie.Need-shape_of-rows
 same_length c = search rules
 
-returns-2 : tie.Need-returns-2
+returns-2 : tie.Need-returns
 returns-2 c =
-    list_accepted _ _ _ c.before.before.before.before.before.check.ensures _ _ _ _ _ c.before.before.before.before.if1.false
-    c.before.before.relocated.ensures
+    list_accepted _ _ _ c.check-refusal.ensures _ _ _ _ _ c.if-refusal-ne0.false
+    c.relocated.ensures
 
 pub relocations_spec : {M : Type 1} → statement M
 relocations_spec =
-    tie.close (tie.spec check-requires returns relocated-requires same_length returns-2)
+    tie.close (tie.spec
+    check-requires
+    returns
+    relocated-requires
+    same_length
+    returns-2)

@@ -8,4 +8,5 @@ returns : tie.Need-returns
 returns c = record { kept = session_kept; spoken = session_spoken; right = λ m k r. right_next m r k }
 
 pub claims_spec : {M : Type 1} → statement M
-claims_spec = tie.close (tie.spec returns)
+claims_spec = tie.close (tie.spec
+    returns)

@@ -7,30 +7,35 @@ use borrow.Author.Rules.{rules}
 use Rattle.session.proofs.act.find.Statement.{statement}
 use Rattle.session.proofs.act.find.Tie as tie
 
-found-requires : tie.Need-found-requires
-found-requires c κs = c.before.before.before.before.before.requires.1.formed
+found-requires : tie.Need-found-reply-requires
+found-requires c κs = c.requires.1.formed
 
 refused-requires : tie.Need-refused-requires
 refused-requires c κs = search rules
 
-returns : tie.Need-returns
+returns : tie.Need-returns-then-reply-ne0
 unfolding map_of
 returns c other =
     refused_step (maps _ _ other) (At _ _) _ _ c.refused.ensures
-    (find_refusal (maps _ _ other) c.before.before.before.before.before.before.before.before.before.requires.0 _ _ _ c.before.before.before.found.ensures)
-    c.before.if1.true
+    (find_refusal (maps _ _ other) c.requires.0 _ _ _ c.found-reply.ensures)
+    c.if-reply-ne0.true
 
 told-requires : tie.Need-told-requires
 told-requires c κs = search rules
 
-returns-2 : tie.Need-returns-2
+returns-2 : tie.Need-returns
 unfolding map_of is_grow performed
 returns-2 c other =
-    let map = c.before.before.before.before.before.before.before.before.before.requires.0 in
+    let map = c.requires.0 in
     told_step (maps _ _ other) (At _ _) _ _ c.told.ensures
-    (find_refusal (maps _ _ other) map _ _ _ c.before.before.before.found.ensures ∙ c.before.if1.false)
+    (find_refusal (maps _ _ other) map _ _ _ c.found-reply.ensures ∙ c.if-reply-ne0.false)
     refl refl
-    (find_told (maps _ _ other) map _ _ _ c.before.before.before.found.ensures c.before.if1.false)
+    (find_told (maps _ _ other) map _ _ _ c.found-reply.ensures c.if-reply-ne0.false)
 
 pub find_spec : {M : Type 1} → statement M
-find_spec = tie.close (tie.spec found-requires refused-requires returns told-requires returns-2)
+find_spec = tie.close (tie.spec
+    found-requires
+    refused-requires
+    returns
+    told-requires
+    returns-2)

@@ -10,20 +10,24 @@ use borrow.Author.Rules.{rules}
 use Rattle.session.proofs.act.is_unmapped.Statement.{statement}
 use Rattle.session.proofs.act.is_unmapped.Tie as tie
 
-is-empty-requires : tie.Need-is-empty-requires
+is-empty-requires : tie.Need-is_empty-empty-requires
 is-empty-requires c κs = search rules
 
-enum_told : tie.Need-enum-told
+enum_told : tie.Need-enum_told-1
 enum_told c = search rules
 
-returns : tie.Need-returns
+returns : tie.Need-returns-in-Fresh
 unfolding is_fresh
-returns c = rw (c.enum_told.given.1, and_false)
+returns c = rw (c.in-Fresh.is, and_false)
 
-returns-2 : tie.Need-returns-2
+returns-2 : tie.Need-returns-in_default
 returns-2 c =
-    c.before.is-empty.ensures
-    ∙ sym (and_true (is_empty c.before.before.args.state.stage) _ (ap not (not_fresh c.before.before.args.command c.match.keys2)))
+    c.is_empty-empty.ensures
+    ∙ sym (and_true (is_empty c.args.state.stage) _ (ap not (not_fresh c.args.command c.in_default.in_default-own.keys2)))
 
 pub is_unmapped_spec : {M : Type 1} → statement M
-is_unmapped_spec = tie.close (tie.spec is-empty-requires enum_told returns returns-2)
+is_unmapped_spec = tie.close (tie.spec
+    is-empty-requires
+    enum_told
+    returns
+    returns-2)
