@@ -247,7 +247,7 @@ pub fn act(
     requires { Right (maps state (arrays tops.old ends.old blocks.old adjustments.old) (arrays other_tops.old other_ends.old other_blocks.old other_adjustments.old)) }
     ensures { Stepped
         (maps state (arrays tops.old ends.old blocks.old adjustments.old) (arrays other_tops.old other_ends.old other_blocks.old other_adjustments.old)) command result
-        (arrays tops.new ends.new blocks.new adjustments.new) (left other_tops.new other_ends.new other_blocks.new other_adjustments.new) }
+        (arrays tops.new ends.new blocks.new adjustments.new) (arrays other_tops.new other_ends.new other_blocks.new other_adjustments.new) }
 {
     let wrong = line_refusal(state, command);
     if wrong != 0 {

@@ -6,11 +6,14 @@ use Rattle.capi.proofs.irr_carry.Tie as tie
 carry-requires : tie.Need-carry-requires
 carry-requires c κs = search rules
 
-same_length : tie.Need-same-length
+same_length : tie.Need-shape_of-words
 same_length c = search rules
 
 returns : tie.Need-returns
-returns c = c.before.before.carry.ensures
+returns c = c.carry.ensures
 
 pub irr_carry_spec : {M : Type 1} → statement M
-irr_carry_spec = tie.close (tie.spec carry-requires same_length returns)
+irr_carry_spec = tie.close (tie.spec
+    carry-requires
+    same_length
+    returns)

@@ -10,4 +10,6 @@ returns : tie.Need-returns
 returns c = c.find.ensures
 
 pub irr_find_spec : {M : Type 1} → statement M
-irr_find_spec = tie.close (tie.spec find-requires returns)
+irr_find_spec = tie.close (tie.spec
+    find-requires
+    returns)

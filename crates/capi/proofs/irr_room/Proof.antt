@@ -10,4 +10,6 @@ returns : tie.Need-returns
 returns c = c.room.ensures
 
 pub irr_room_spec : {M : Type 1} → statement M
-irr_room_spec = tie.close (tie.spec room-requires returns)
+irr_room_spec = tie.close (tie.spec
+    room-requires
+    returns)

@@ -6,11 +6,14 @@ use Rattle.capi.proofs.irr_sheet.Tie as tie
 sheet-requires : tie.Need-sheet-requires
 sheet-requires c κs = search rules
 
-same_length : tie.Need-same-length
+same_length : tie.Need-shape_of-buffer
 same_length c = search rules
 
 returns : tie.Need-returns
-returns c = c.before.before.sheet.ensures
+returns c = c.sheet.ensures
 
 pub irr_sheet_spec : {M : Type 1} → statement M
-irr_sheet_spec = tie.close (tie.spec sheet-requires same_length returns)
+irr_sheet_spec = tie.close (tie.spec
+    sheet-requires
+    same_length
+    returns)

@@ -1,7 +1,7 @@
 -- `session::act::act` meets its contract: one return for each command. Assumes nothing.
 use mathlib.Core.Path.{refl}
 use Rattle.model.specs.Console.{is_fresh}
-use Rattle.model.specs.declared.command.command.TheVariants.{Grow, Where, At, Moves}
+use Rattle.model.specs.declared.command.Command.TheVariants.{Grow, Where, At, Moves}
 use Rattle.session.proofs.Steps.{passed_sound, step_of, line_step, moves_step, unreadable_step}
 use borrow.Author.Rules.{rules}
 use Rattle.session.proofs.act.act.Statement.{statement}
@@ -28,8 +28,8 @@ enum-known-command-2 c = search rules
 grow-requires : tie.Need-grow-requires
 unfolding is_fresh
 grow-requires c κs = (
-  passed_sound _ (Grow _ _) c.before.before.before.before.before.before.before.before.before.command-in-Grow-1.given.1 refl (c.before.before.before.before.before.before.before.before.before.before.before.before.line_refusal-wrong.ensures _ _) c.before.before.before.before.before.before.before.before.before.before.before.if-wrong-ne0.false c.before.before.before.before.before.before.before.before.before.before.before.before.before.before.before.before.before.before.before.before.before.requires,
-  c.before.before.before.before.before.before.before.before.before.before.before.before.before.before.before.before.before.before.before.before.before.requires.other_room,
+  passed_sound _ (Grow _ _) c.in-Grow.is refl (c.line_refusal-wrong.ensures _ _) c.if-wrong-ne0.false c.requires,
+  c.requires.other_room,
 )
 
 enum-known-command-3 : tie.Need-enum_known-command-in-Where-1
@@ -38,7 +38,7 @@ enum-known-command-3 c = search rules
 place-requires : tie.Need-place-requires
 unfolding is_fresh
 place-requires c κs =
-    passed_sound _ (Where _) c.before.before.before.before.before.command-in-Where-1.given.1 refl (c.before.before.before.before.before.before.before.before.line_refusal-wrong.ensures _ _) c.before.before.before.before.before.before.before.if-wrong-ne0.false c.before.before.before.before.before.before.before.before.before.before.before.before.before.before.before.before.before.requires
+    passed_sound _ (Where _) c.in-Where.is refl (c.line_refusal-wrong.ensures _ _) c.if-wrong-ne0.false c.requires
 
 enum-known-command-4 : tie.Need-enum_known-command-in-At-1
 enum-known-command-4 c = search rules
@@ -46,7 +46,7 @@ enum-known-command-4 c = search rules
 find-requires : tie.Need-find-requires
 unfolding is_fresh
 find-requires c κs =
-    passed_sound _ (At _ _) c.before.before.before.before.before.command-in-At-1.given.1 refl (c.before.before.before.before.before.before.before.before.line_refusal-wrong.ensures _ _) c.before.before.before.before.before.before.before.if-wrong-ne0.false c.before.before.before.before.before.before.before.before.before.before.before.before.before.before.before.before.before.requires
+    passed_sound _ (At _ _) c.in-At.is refl (c.line_refusal-wrong.ensures _ _) c.if-wrong-ne0.false c.requires
 
 enum_told : tie.Need-enum_told-1
 enum_told c = search rules
@@ -103,7 +103,7 @@ same-length-12 c = search rules
 
 returns-3 : tie.Need-returns-in-Grow
 returns-3 c =
-    step_of _ c.before.before.before.before.before.before.before.before.before.before.before.before.before.before.before.before.before.before.command-in-Grow-1.given.1 c.grow.ensures
+    step_of _ c.in-Grow.is c.grow.ensures
 
 same-length-13 : tie.Need-shape_of-tops-in-Where
 same-length-13 c = search rules
@@ -118,7 +118,7 @@ same-length-16 : tie.Need-shape_of-adjustments-in-Where
 same-length-16 c = search rules
 
 returns-4 : tie.Need-returns-in-Where
-returns-4 c = step_of _ c.before.before.before.before.before.before.command-in-Where-1.given.1 (c.place.ensures _)
+returns-4 c = step_of _ c.in-Where.is (c.place.ensures _)
 
 same-length-17 : tie.Need-shape_of-tops-in-At
 same-length-17 c = search rules
@@ -133,7 +133,7 @@ same-length-20 : tie.Need-shape_of-adjustments-in-At
 same-length-20 c = search rules
 
 returns-5 : tie.Need-returns-in-At
-returns-5 c = step_of _ c.before.before.before.before.before.before.command-in-At-1.given.1 (c.find.ensures _)
+returns-5 c = step_of _ c.in-At.is (c.find.ensures _)
 
 returns-6 : tie.Need-returns-in-Moves
 unfolding is_fresh
