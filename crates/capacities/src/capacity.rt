@@ -5,6 +5,7 @@ use crate::grow::grow;
 use crate::keep::{loaded, with_room};
 use crate::print::{bytes, end, first, number, placed, text};
 use model::table::Header;
+use std::io;
 
 const MOST: u32 = 1_000_000_000;
 
@@ -22,18 +23,26 @@ fn header(buckets: u32, capacity: u32, count: u32) -> Header {
 }
 
 // Each call that reads a table. What it is asked is right, or is refused where the table is not.
-fn calls(h: Header, tops: &[u32], ends: &[u32], blocks: &[u32], adjustments: &[u32]) {
-    reads(h, tops, ends, blocks, adjustments, 1, 9, &[3, 7]);
-    reads(h, tops, ends, blocks, adjustments, LAST, LAST, &[7, 3]);
-    save(h, tops, ends, blocks, adjustments, &mut [255; 26]);
-    save(h, tops, ends, blocks, adjustments, &mut [255; 23]);
-    grow(h, tops, ends, blocks, adjustments, 15, 5, 0);
-    grow(h, tops, ends, blocks, adjustments, 0, 5, LAST);
-    grow(h, tops, ends, blocks, adjustments, 16, 3, LAST);
+fn calls(
+    rt: &impl Print,
+    h: Header,
+    tops: &[u32],
+    ends: &[u32],
+    blocks: &[u32],
+    adjustments: &[u32],
+) -> io::Result<()> {
+    reads(rt, h, tops, ends, blocks, adjustments, 1, 9, &[3, 7])?;
+    reads(rt, h, tops, ends, blocks, adjustments, LAST, LAST, &[7, 3])?;
+    save(rt, h, tops, ends, blocks, adjustments, &mut [255; 26])?;
+    save(rt, h, tops, ends, blocks, adjustments, &mut [255; 23])?;
+    grow(rt, h, tops, ends, blocks, adjustments, 15, 5, 0)?;
+    grow(rt, h, tops, ends, blocks, adjustments, 0, 5, LAST)?;
+    grow(rt, h, tops, ends, blocks, adjustments, 16, 3, LAST)
 }
 
 // A bucket and a bin are x; refusals and replies, and the places of a list.
 fn reads(
+    rt: &impl Print,
     h: Header,
     tops: &[u32],
     ends: &[u32],
@@ -42,118 +51,121 @@ fn reads(
     x: u32,
     position: u32,
     list: &[u32],
-) {
-    text(b" place");
-    placed(irr::place(h, tops, ends, blocks, adjustments, x));
+) -> io::Result<()> {
+    text(rt, b" place")?;
+    placed(rt, irr::place(h, tops, ends, blocks, adjustments, x))?;
     let found = irr::find(h, tops, ends, blocks, adjustments, x, position);
-    text(b" find");
-    number(found.refusal);
-    number(found.bucket);
-    end();
+    text(rt, b" find")?;
+    number(rt, found.refusal)?;
+    number(rt, found.bucket)?;
+    end(rt)?;
     let sized = irr::bin_size(h, tops, ends, blocks, adjustments, x);
-    text(b" bin size");
-    number(sized.refusal);
-    number(sized.buckets);
-    end();
+    text(rt, b" bin size")?;
+    number(rt, sized.refusal)?;
+    number(rt, sized.buckets)?;
+    end(rt)?;
     let mut result = [9u32; 4];
     let reply = irr::places(h, tops, ends, blocks, adjustments, list, &mut result);
-    text(b" places");
-    number(reply.refusal);
-    first(&result, 4);
-    end();
+    text(rt, b" places")?;
+    number(rt, reply.refusal)?;
+    first(rt, &result, 4)?;
+    end(rt)
 }
 
 // refusal, length; the buffer afterwards
 fn save(
+    rt: &impl Print,
     h: Header,
     tops: &[u32],
     ends: &[u32],
     blocks: &[u32],
     adjustments: &[u32],
     buffer: &mut [u8],
-) {
+) -> io::Result<()> {
     let reply = irr::save(h, tops, ends, blocks, adjustments, buffer);
-    text(b" save");
-    number(reply.refusal);
-    number(reply.length);
-    end();
-    bytes(buffer);
+    text(rt, b" save")?;
+    number(rt, reply.refusal)?;
+    number(rt, reply.length)?;
+    end(rt)?;
+    bytes(rt, buffer)
 }
 
 // The table of (10, 2): 5 buckets in every bin, and the label's 8 positions.
-fn small(words: &[u8], capacity: u32) {
-    text(words);
-    end();
-    calls(header(10, capacity, 1), &[2], &[10], &[0], &[0]);
+fn small(rt: &impl Print, words: &[u8], capacity: u32) -> io::Result<()> {
+    text(rt, words)?;
+    end(rt)?;
+    calls(rt, header(10, capacity, 1), &[2], &[10], &[0], &[0])
 }
 
 // The table of (12, 3) that follows it, 4 in every bin, with one thing changed; only a placing.
 fn changed(
+    rt: &impl Print,
     words: &[u8],
     h: Header,
     tops: &[u32],
     ends: &[u32],
     blocks: &[u32],
     adjustments: &[u32],
-) {
-    text(words);
-    placed(irr::place(h, tops, ends, blocks, adjustments, 0));
+) -> io::Result<()> {
+    text(rt, words)?;
+    placed(rt, irr::place(h, tops, ends, blocks, adjustments, 0))
 }
 
 // 30 of a lent table. 11 to 16 come before it, 1, 6, 7, 21 and 32 after it.
-pub fn tables() {
-    small(b"(10, 2), capacity 13", 13);
-    small(b"(10, 2), capacity 12", 12);
-    small(b"(10, 2), capacity 8", 8);
-    small(b"(10, 2), capacity 0", 0);
-    small(b"(10, 2), capacity 1000000001", OVER);
-    text(b"(10, 2), capacity 12, adjustment 1\n");
-    calls(header(10, 12, 1), &[2], &[10], &[0], &[1]);
-    changed_tables(12);
-    changed_tables(11);
+pub fn tables(rt: &impl Print) -> io::Result<()> {
+    small(rt, b"(10, 2), capacity 13", 13)?;
+    small(rt, b"(10, 2), capacity 12", 12)?;
+    small(rt, b"(10, 2), capacity 8", 8)?;
+    small(rt, b"(10, 2), capacity 0", 0)?;
+    small(rt, b"(10, 2), capacity 1000000001", OVER)?;
+    text(rt, b"(10, 2), capacity 12, adjustment 1\n")?;
+    calls(rt, header(10, 12, 1), &[2], &[10], &[0], &[1])?;
+    changed_tables(rt, 12)?;
+    changed_tables(rt, 11)
 }
 
-fn changed_tables(p: u32) {
-    text(b"(12, 3), capacity");
-    number(p);
-    end();
+fn changed_tables(rt: &impl Print, p: u32) -> io::Result<()> {
+    text(rt, b"(12, 3), capacity")?;
+    number(rt, p)?;
+    end(rt)?;
     let h = header(12, p, 2);
-    changed(b" right", h, &[2, 3], &[8, 12], &[0, 1], &[0, 8]);
+    changed(rt, b" right", h, &[2, 3], &[8, 12], &[0, 1], &[0, 8])?;
     changed(
+        rt,
         b" no bucket",
         header(0, p, 2),
         &[2, 3],
         &[8, 12],
         &[0, 1],
         &[0, 8],
-    );
-    changed(b" equal tops", h, &[3, 3], &[8, 12], &[0, 1], &[0, 8]);
-    changed(b" last end 13", h, &[2, 3], &[8, 13], &[0, 1], &[0, 8]);
-    changed(b" block 2", h, &[2, 3], &[8, 12], &[0, 2], &[0, 8]);
-    changed(b" first end 7", h, &[2, 3], &[7, 12], &[0, 1], &[0, 7]);
-    changed(b" adjustment 7", h, &[2, 3], &[8, 12], &[0, 1], &[0, 7]);
+    )?;
+    changed(rt, b" equal tops", h, &[3, 3], &[8, 12], &[0, 1], &[0, 8])?;
+    changed(rt, b" last end 13", h, &[2, 3], &[8, 13], &[0, 1], &[0, 8])?;
+    changed(rt, b" block 2", h, &[2, 3], &[8, 12], &[0, 2], &[0, 8])?;
+    changed(rt, b" first end 7", h, &[2, 3], &[7, 12], &[0, 1], &[0, 7])?;
+    changed(rt, b" adjustment 7", h, &[2, 3], &[8, 12], &[0, 1], &[0, 7])
 }
 
 // A growth of (10, 2).
-fn grown(capacity: u32, buckets: u32, bins: u32) {
-    text(b"(10, 2), capacity");
-    number(capacity);
-    end();
+fn grown(rt: &impl Print, capacity: u32, buckets: u32, bins: u32) -> io::Result<()> {
+    text(rt, b"(10, 2), capacity")?;
+    number(rt, capacity)?;
+    end(rt)?;
     let h = header(10, capacity, 1);
-    grow(h, &[2], &[10], &[0], &[0], buckets, bins, 0);
+    grow(rt, h, &[2], &[10], &[0], &[0], buckets, bins, 0)
 }
 
 // 31 of a growth. 1 and 3 come before it, 9 after it.
-pub fn growths() {
-    grown(13, 12, 2);
-    grown(14, 12, 2);
-    grown(13, 12, 3);
-    grown(13, 15, 3);
-    grown(13, 16, 3);
-    grown(13, OVER, 2);
-    grown(13, 100, 1);
-    grow(header(10, 13, 1), &[2], &[10], &[0], &[0], 12, 2, LAST);
-    grow(header(10, 13, 1), &[2], &[10], &[0], &[0], 12, 3, 3);
+pub fn growths(rt: &impl Print) -> io::Result<()> {
+    grown(rt, 13, 12, 2)?;
+    grown(rt, 14, 12, 2)?;
+    grown(rt, 13, 12, 3)?;
+    grown(rt, 13, 15, 3)?;
+    grown(rt, 13, 16, 3)?;
+    grown(rt, 13, OVER, 2)?;
+    grown(rt, 13, 100, 1)?;
+    grow(rt, header(10, 13, 1), &[2], &[10], &[0], &[0], 12, 2, LAST)?;
+    grow(rt, header(10, 13, 1), &[2], &[10], &[0], &[0], 12, 3, 3)
 }
 
 // The saved form of (10, 2).
@@ -168,38 +180,39 @@ const GROWN: [u8; 36] = [
 ];
 
 // One byte of the second changed, and its capacity one too small.
-fn damaged(words: &[u8], at: usize, byte: u8)
+fn damaged(rt: &impl Print, words: &[u8], at: usize, byte: u8) -> io::Result<()>
     requires { at < 36 }
 {
     let mut file = GROWN;
     file[at] = byte;
-    with_room(words, &file, 11);
+    with_room(rt, words, &file, 11)
 }
 
 // 30 of a file. 21 and 11 to 15 come before it.
-pub fn files() {
-    with_room(b"load (10, 2) with capacity 13", &SMALL, 13);
-    with_room(b"load (10, 2) with capacity 12", &SMALL, 12);
-    with_room(b"load (10, 2) with capacity 8", &SMALL, 8);
-    with_room(b"load (10, 2) with capacity 0", &SMALL, 0);
-    with_room(b"load (10, 2) with capacity 1000000000", &SMALL, MOST);
-    with_room(b"load (10, 2) with capacity 1000000001", &SMALL, OVER);
-    with_room(b"load (12, 3) with capacity 12", &GROWN, 12);
-    with_room(b"load (12, 3) with capacity 11", &GROWN, 11);
+pub fn files(rt: &impl Print) -> io::Result<()> {
+    with_room(rt, b"load (10, 2) with capacity 13", &SMALL, 13)?;
+    with_room(rt, b"load (10, 2) with capacity 12", &SMALL, 12)?;
+    with_room(rt, b"load (10, 2) with capacity 8", &SMALL, 8)?;
+    with_room(rt, b"load (10, 2) with capacity 0", &SMALL, 0)?;
+    with_room(rt, b"load (10, 2) with capacity 1000000000", &SMALL, MOST)?;
+    with_room(rt, b"load (10, 2) with capacity 1000000001", &SMALL, OVER)?;
+    with_room(rt, b"load (12, 3) with capacity 12", &GROWN, 12)?;
+    with_room(rt, b"load (12, 3) with capacity 11", &GROWN, 11)?;
     loaded(
+        rt,
         b"load (10, 2) with capacity 0 and 64 tops",
         &SMALL,
         0,
         &mut [9; 64],
-    );
-    with_room(b"load 35 bytes with capacity 11", &GROWN[..35], 11);
-    wrong_files();
+    )?;
+    with_room(rt, b"load 35 bytes with capacity 11", &GROWN[..35], 11)?;
+    wrong_files(rt)
 }
 
-fn wrong_files() {
-    damaged(b"load with capacity 11 and no bucket", 0, 0);
-    damaged(b"load with capacity 11 and equal tops", 12, 3);
-    damaged(b"load with capacity 11 and last end 11", 24, 11);
-    damaged(b"load with capacity 11 and block 2 of 2", 32, 2);
-    damaged(b"load with capacity 11 and first end 7", 20, 7);
+fn wrong_files(rt: &impl Print) -> io::Result<()> {
+    damaged(rt, b"load with capacity 11 and no bucket", 0, 0)?;
+    damaged(rt, b"load with capacity 11 and equal tops", 12, 3)?;
+    damaged(rt, b"load with capacity 11 and last end 11", 24, 11)?;
+    damaged(rt, b"load with capacity 11 and block 2 of 2", 32, 2)?;
+    damaged(rt, b"load with capacity 11 and first end 7", 20, 7)
 }

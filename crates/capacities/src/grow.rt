@@ -2,9 +2,11 @@
 use crate::print::{end, first, number, text};
 use model::reply::TableReply;
 use model::table::Header;
+use std::io;
 
 // The move list is asked for from `order` on.
 pub fn grow(
+    rt: &impl Print,
     h: Header,
     tops: &[u32],
     ends: &[u32],
@@ -13,12 +15,13 @@ pub fn grow(
     buckets: u32,
     bins: u32,
     order: u32,
-) {
-    expand(h, tops, ends, blocks, adjustments, buckets, bins);
-    moves(h, tops, ends, blocks, adjustments, buckets, bins, order);
+) -> io::Result<()> {
+    expand(rt, h, tops, ends, blocks, adjustments, buckets, bins)?;
+    moves(rt, h, tops, ends, blocks, adjustments, buckets, bins, order)
 }
 
 fn expand(
+    rt: &impl Print,
     h: Header,
     tops: &[u32],
     ends: &[u32],
@@ -26,7 +29,7 @@ fn expand(
     adjustments: &[u32],
     buckets: u32,
     bins: u32,
-) {
+) -> io::Result<()> {
     let mut new_tops = [7u32; 65];
     let mut new_ends = [7u32; 2081];
     let mut new_blocks = [7u32; 2081];
@@ -44,21 +47,22 @@ fn expand(
         &mut new_blocks,
         &mut new_adjustments,
     );
-    text(b" expand");
-    number(buckets);
-    number(bins);
-    end();
-    replied(reply);
-    text(b"  entries");
-    first(&new_tops, 3);
-    first(&new_ends, 3);
-    first(&new_blocks, 3);
-    first(&new_adjustments, 3);
-    end();
+    text(rt, b" expand")?;
+    number(rt, buckets)?;
+    number(rt, bins)?;
+    end(rt)?;
+    replied(rt, reply)?;
+    text(rt, b"  entries")?;
+    first(rt, &new_tops, 3)?;
+    first(rt, &new_ends, 3)?;
+    first(rt, &new_blocks, 3)?;
+    first(rt, &new_adjustments, 3)?;
+    end(rt)
 }
 
 // sizes, order; refusal, written, total; the rows
 fn moves(
+    rt: &impl Print,
     h: Header,
     tops: &[u32],
     ends: &[u32],
@@ -67,7 +71,7 @@ fn moves(
     buckets: u32,
     bins: u32,
     order: u32,
-) {
+) -> io::Result<()> {
     let mut rows = [9u32; 15];
     let reply = irr::relocations(
         h,
@@ -80,29 +84,29 @@ fn moves(
         order,
         &mut rows,
     );
-    text(b" moves");
-    number(buckets);
-    number(bins);
-    number(order);
-    end();
-    text(b"  reply");
-    number(reply.refusal);
-    number(reply.written);
-    number(reply.total);
-    end();
-    text(b"  rows");
-    first(&rows, 15);
-    end();
+    text(rt, b" moves")?;
+    number(rt, buckets)?;
+    number(rt, bins)?;
+    number(rt, order)?;
+    end(rt)?;
+    text(rt, b"  reply")?;
+    number(rt, reply.refusal)?;
+    number(rt, reply.written)?;
+    number(rt, reply.total)?;
+    end(rt)?;
+    text(rt, b"  rows")?;
+    first(rt, &rows, 15)?;
+    end(rt)
 }
 
 // refusal, moved, header
-fn replied(reply: TableReply) {
-    text(b"  reply");
-    number(reply.refusal);
-    number(reply.moved);
-    number(reply.header.buckets);
-    number(reply.header.capacity);
-    number(reply.header.block_count);
-    number(reply.header.interval_count);
-    end();
+fn replied(rt: &impl Print, reply: TableReply) -> io::Result<()> {
+    text(rt, b"  reply")?;
+    number(rt, reply.refusal)?;
+    number(rt, reply.moved)?;
+    number(rt, reply.header.buckets)?;
+    number(rt, reply.header.capacity)?;
+    number(rt, reply.header.block_count)?;
+    number(rt, reply.header.interval_count)?;
+    end(rt)
 }

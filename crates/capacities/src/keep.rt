@@ -4,6 +4,7 @@ ghost use Rattle.std.specs.Prelude.{◌<◌};
 use crate::print::{bytes, end, first, number, text};
 use model::limits::MAX_CAPACITY;
 use model::table::Header;
+use std::io;
 
 // Its saved form: 12 + 4 * 2 + 8 * 2 bytes.
 const FILE: [u8; 36] = [
@@ -18,7 +19,7 @@ const LONGER: [u8; 37] = [
 ];
 
 // Saves to a buffer; refusal, length.
-fn saved(buffer: &mut [u8]) {
+fn saved(rt: &impl Print, buffer: &mut [u8]) -> io::Result<()> {
     let h = Header {
         buckets: 10,
         capacity: MAX_CAPACITY,
@@ -26,39 +27,45 @@ fn saved(buffer: &mut [u8]) {
         interval_count: 2,
     };
     let reply = irr::save(h, &[2, 3], &[7, 10], &[0, 1], &[0, 7], buffer);
-    text(b"save");
-    number(reply.refusal);
-    number(reply.length);
-    end();
+    text(rt, b"save")?;
+    number(rt, reply.refusal)?;
+    number(rt, reply.length)?;
+    end(rt)
 }
 
 // A buffer with four bytes to spare, one of the right length, and one a byte short (21). The bytes are shown.
-pub fn saves() {
-    roomy();
-    exact();
-    short();
+pub fn saves(rt: &impl Print) -> io::Result<()> {
+    roomy(rt)?;
+    exact(rt)?;
+    short(rt)
 }
 
-fn roomy() {
+fn roomy(rt: &impl Print) -> io::Result<()> {
     let mut buffer = [255u8; 40];
-    saved(&mut buffer);
-    bytes(&buffer);
+    saved(rt, &mut buffer)?;
+    bytes(rt, &buffer)
 }
 
-fn exact() {
+fn exact(rt: &impl Print) -> io::Result<()> {
     let mut buffer = [255u8; 36];
-    saved(&mut buffer);
-    bytes(&buffer);
+    saved(rt, &mut buffer)?;
+    bytes(rt, &buffer)
 }
 
-fn short() {
+fn short(rt: &impl Print) -> io::Result<()> {
     let mut buffer = [255u8; 35];
-    saved(&mut buffer);
-    bytes(&buffer);
+    saved(rt, &mut buffer)?;
+    bytes(rt, &buffer)
 }
 
 // Loads; refusal, header; the first three entries of each array.
-pub fn loaded(words: &[u8], file: &[u8], capacity: u32, tops: &mut [u32]) {
+pub fn loaded(
+    rt: &impl Print,
+    words: &[u8],
+    file: &[u8],
+    capacity: u32,
+    tops: &mut [u32],
+) -> io::Result<()> {
     let mut ends = [9u32; 2081];
     let mut blocks = [9u32; 2081];
     let mut adjustments = [9u32; 2081];
@@ -70,68 +77,68 @@ pub fn loaded(words: &[u8], file: &[u8], capacity: u32, tops: &mut [u32]) {
         &mut blocks,
         &mut adjustments,
     );
-    text(words);
-    number(reply.refusal);
-    number(reply.header.buckets);
-    number(reply.header.capacity);
-    number(reply.header.block_count);
-    number(reply.header.interval_count);
-    end();
-    three(b"  ends", &ends);
-    three(b"  blocks", &blocks);
-    three(b"  adjustments", &adjustments);
+    text(rt, words)?;
+    number(rt, reply.refusal)?;
+    number(rt, reply.header.buckets)?;
+    number(rt, reply.header.capacity)?;
+    number(rt, reply.header.block_count)?;
+    number(rt, reply.header.interval_count)?;
+    end(rt)?;
+    three(rt, b"  ends", &ends)?;
+    three(rt, b"  blocks", &blocks)?;
+    three(rt, b"  adjustments", &adjustments)
 }
 
-fn three(words: &[u8], numbers: &[u32]) {
-    text(words);
-    first(numbers, 3);
-    end();
+fn three(rt: &impl Print, words: &[u8], numbers: &[u32]) -> io::Result<()> {
+    text(rt, words)?;
+    first(rt, numbers, 3)?;
+    end(rt)
 }
 
-pub fn with_room(words: &[u8], file: &[u8], capacity: u32) {
+pub fn with_room(rt: &impl Print, words: &[u8], file: &[u8], capacity: u32) -> io::Result<()> {
     let mut tops = [9u32; 65];
-    loaded(words, file, capacity, &mut tops);
-    three(b"  tops", &tops);
+    loaded(rt, words, file, capacity, &mut tops)?;
+    three(rt, b"  tops", &tops)
 }
 
-fn ample(words: &[u8], file: &[u8]) {
-    with_room(words, file, MAX_CAPACITY);
+fn ample(rt: &impl Print, words: &[u8], file: &[u8]) -> io::Result<()> {
+    with_room(rt, words, file, MAX_CAPACITY)
 }
 
 // One byte of the file changed.
-fn changed(words: &[u8], at: usize, byte: u8)
+fn changed(rt: &impl Print, words: &[u8], at: usize, byte: u8) -> io::Result<()>
     requires { at < 36 }
 {
     let mut file = FILE;
     file[at] = byte;
-    ample(words, &file);
+    ample(rt, words, &file)
 }
 
 // 21, then 11 by other lengths, then 11 to 15 by their contents.
-pub fn loads() {
-    ample(b"load", &FILE);
-    loaded(b"load with 64 tops", &FILE, MAX_CAPACITY, &mut [9; 64]);
-    lengths();
-    contents();
-    blocks();
+pub fn loads(rt: &impl Print) -> io::Result<()> {
+    ample(rt, b"load", &FILE)?;
+    loaded(rt, b"load with 64 tops", &FILE, MAX_CAPACITY, &mut [9; 64])?;
+    lengths(rt)?;
+    contents(rt)?;
+    blocks(rt)
 }
 
-fn lengths() {
-    ample(b"load 1 byte", &[10]);
-    ample(b"load 11 bytes", &FILE[..11]);
-    ample(b"load 35 bytes", &FILE[..35]);
-    ample(b"load 37 bytes", &LONGER);
+fn lengths(rt: &impl Print) -> io::Result<()> {
+    ample(rt, b"load 1 byte", &[10])?;
+    ample(rt, b"load 11 bytes", &FILE[..11])?;
+    ample(rt, b"load 35 bytes", &FILE[..35])?;
+    ample(rt, b"load 37 bytes", &LONGER)
 }
 
-fn contents() {
-    changed(b"load with no bucket", 0, 0);
-    changed(b"load with equal tops", 12, 3);
-    changed(b"load with last end 9", 24, 9);
-    changed(b"load with block 2 of 2", 32, 2);
+fn contents(rt: &impl Print) -> io::Result<()> {
+    changed(rt, b"load with no bucket", 0, 0)?;
+    changed(rt, b"load with equal tops", 12, 3)?;
+    changed(rt, b"load with last end 9", 24, 9)?;
+    changed(rt, b"load with block 2 of 2", 32, 2)
 }
 
-fn blocks() {
-    changed(b"load with first end 6", 20, 6);
-    changed(b"load with block 1 twice", 28, 1);
-    changed(b"load with a high byte", 3, 64);
+fn blocks(rt: &impl Print) -> io::Result<()> {
+    changed(rt, b"load with first end 6", 20, 6)?;
+    changed(rt, b"load with block 1 twice", 28, 1)?;
+    changed(rt, b"load with a high byte", 3, 64)
 }

@@ -7,10 +7,12 @@ mod grow;
 mod keep;
 mod print;
 
-fn main() {
-    keep::saves();
-    keep::loads();
-    capacity::tables();
-    capacity::growths();
-    capacity::files();
+use std::io;
+
+fn main(rt: HostRuntime) -> io::Result<()> {
+    keep::saves(&rt)?;
+    keep::loads(&rt)?;
+    capacity::tables(&rt)?;
+    capacity::growths(&rt)?;
+    capacity::files(&rt)
 }

@@ -4,6 +4,7 @@ ghost use Rattle.std.specs.Prelude.{◌<◌, ◌≤◌};
 use crate::print::{end, first, number, text};
 use model::limits::MAX_CAPACITY;
 use model::reply::TableReply;
+use std::io;
 
 const MOST: u32 = 1_000_000_000;
 
@@ -41,16 +42,17 @@ fn size(i: usize) -> u32
     SIZES[i]
 }
 
-pub fn sizes() {
+pub fn sizes(rt: &impl Print) -> io::Result<()> {
     let mut i: usize = 0;
     while i < 10 {
-        fresh(size(2 * i), size(2 * i + 1), MAX_CAPACITY);
+        fresh(rt, size(2 * i), size(2 * i + 1), MAX_CAPACITY)?;
         i += 1;
     }
+    Ok(())
 }
 
 // sizes, capacity; the reply; the first two entries of each array: written, and kept
-fn fresh(buckets: u32, bins: u32, capacity: u32) {
+fn fresh(rt: &impl Print, buckets: u32, bins: u32, capacity: u32) -> io::Result<()> {
     let mut tops = [7u32; 65];
     let mut ends = [7u32; 2081];
     let mut blocks = [7u32; 2081];
@@ -64,90 +66,97 @@ fn fresh(buckets: u32, bins: u32, capacity: u32) {
         &mut blocks,
         &mut adjustments,
     );
-    text(b"fresh");
-    number(buckets);
-    number(bins);
-    number(capacity);
-    end();
-    replied(reply);
-    text(b"  entries");
-    first(&tops, 2);
-    first(&ends, 2);
-    first(&blocks, 2);
-    first(&adjustments, 2);
-    end();
+    text(rt, b"fresh")?;
+    number(rt, buckets)?;
+    number(rt, bins)?;
+    number(rt, capacity)?;
+    end(rt)?;
+    replied(rt, reply)?;
+    text(rt, b"  entries")?;
+    first(rt, &tops, 2)?;
+    first(rt, &ends, 2)?;
+    first(rt, &blocks, 2)?;
+    first(rt, &adjustments, 2)?;
+    end(rt)
 }
 
 // refusal, moved, header
-fn replied(reply: TableReply) {
-    text(b"  reply");
-    number(reply.refusal);
-    number(reply.moved);
-    number(reply.header.buckets);
-    number(reply.header.capacity);
-    number(reply.header.block_count);
-    number(reply.header.interval_count);
-    end();
+fn replied(rt: &impl Print, reply: TableReply) -> io::Result<()> {
+    text(rt, b"  reply")?;
+    number(rt, reply.refusal)?;
+    number(rt, reply.moved)?;
+    number(rt, reply.header.buckets)?;
+    number(rt, reply.header.capacity)?;
+    number(rt, reply.header.block_count)?;
+    number(rt, reply.header.interval_count)?;
+    end(rt)
 }
 
 // Fresh maps. Of (10, 2) a bin holds 5, of (11, 2) the first one 6, and the label has 8 positions more. 30 comes before 1 and 2;
 // 1 and 2 come before 31.
-pub fn maps() {
-    fresh(10, 2, 13);
-    fresh(10, 2, 12);
-    fresh(11, 2, 14);
-    fresh(11, 2, 13);
-    fresh(12, 2, 13);
-    fresh(12, 3, 13);
-    fresh(10, 2, 0);
-    fresh(10, 2, OVER);
-    fresh(10, 2, LAST);
-    fresh(10, 2, MOST);
-    labels();
-    most_maps();
-    order();
+pub fn maps(rt: &impl Print) -> io::Result<()> {
+    fresh(rt, 10, 2, 13)?;
+    fresh(rt, 10, 2, 12)?;
+    fresh(rt, 11, 2, 14)?;
+    fresh(rt, 11, 2, 13)?;
+    fresh(rt, 12, 2, 13)?;
+    fresh(rt, 12, 3, 13)?;
+    fresh(rt, 10, 2, 0)?;
+    fresh(rt, 10, 2, OVER)?;
+    fresh(rt, 10, 2, LAST)?;
+    fresh(rt, 10, 2, MOST)?;
+    labels(rt)?;
+    most_maps(rt)?;
+    order(rt)
 }
 
 // One bucket in one bin: a capacity of 1 to 8 has room for the label at most.
-fn labels() {
-    fresh(1, 1, 1);
-    fresh(1, 1, 7);
-    fresh(1, 1, 8);
-    fresh(1, 1, 9);
+fn labels(rt: &impl Print) -> io::Result<()> {
+    fresh(rt, 1, 1, 1)?;
+    fresh(rt, 1, 1, 7)?;
+    fresh(rt, 1, 1, 8)?;
+    fresh(rt, 1, 1, 9)
 }
 
 // The most buckets, in one bin and in more. In 43 bins, P n is above a multiple of 2^32 by less than B.
-fn most_maps() {
-    fresh(MOST, 1, MOST);
-    fresh(999_999_993, 1, MOST);
-    fresh(999_999_992, 1, MOST);
-    fresh(999_999_992, 1, 999_999_999);
-    fresh(MOST, 43, MOST);
-    fresh(MOST, 1, 999_999_999);
-    fresh(MOST, 65_535, 15_268);
-    fresh(MOST, 65_535, 15_267);
+fn most_maps(rt: &impl Print) -> io::Result<()> {
+    fresh(rt, MOST, 1, MOST)?;
+    fresh(rt, 999_999_993, 1, MOST)?;
+    fresh(rt, 999_999_992, 1, MOST)?;
+    fresh(rt, 999_999_992, 1, 999_999_999)?;
+    fresh(rt, MOST, 43, MOST)?;
+    fresh(rt, MOST, 1, 999_999_999)?;
+    fresh(rt, MOST, 65_535, 15_268)?;
+    fresh(rt, MOST, 65_535, 15_267)
 }
 
-fn order() {
-    fresh(0, 2, 0);
-    fresh(10, 0, OVER);
-    fresh(1, 2, 0);
-    fresh(OVER, 1, 4);
-    fresh(10, 0, 4);
-    fresh(1, 2, 8);
+fn order(rt: &impl Print) -> io::Result<()> {
+    fresh(rt, 0, 2, 0)?;
+    fresh(rt, 10, 0, OVER)?;
+    fresh(rt, 1, 2, 0)?;
+    fresh(rt, OVER, 1, 4)?;
+    fresh(rt, 10, 0, 4)?;
+    fresh(rt, 1, 2, 8)
 }
 
 // 21: one entry short in each array. The capacity and the sizes would be refused too.
-pub fn rooms() {
-    asked(b"room for all", 65, 2_081, 2_081, 2_081);
-    asked(b"64 tops", 64, 2_081, 2_081, 2_081);
-    asked(b"2080 ends", 65, 2_080, 2_081, 2_081);
-    asked(b"2080 blocks", 65, 2_081, 2_080, 2_081);
-    asked(b"2080 adjustments", 65, 2_081, 2_081, 2_080);
+pub fn rooms(rt: &impl Print) -> io::Result<()> {
+    asked(rt, b"room for all", 65, 2_081, 2_081, 2_081)?;
+    asked(rt, b"64 tops", 64, 2_081, 2_081, 2_081)?;
+    asked(rt, b"2080 ends", 65, 2_080, 2_081, 2_081)?;
+    asked(rt, b"2080 blocks", 65, 2_081, 2_080, 2_081)?;
+    asked(rt, b"2080 adjustments", 65, 2_081, 2_081, 2_080)
 }
 
 // So many entries of each array are lent.
-fn asked(words: &[u8], tops: usize, ends: usize, blocks: usize, adjustments: usize)
+fn asked(
+    rt: &impl Print,
+    words: &[u8],
+    tops: usize,
+    ends: usize,
+    blocks: usize,
+    adjustments: usize,
+) -> io::Result<()>
     requires tops_bound { tops ≤ 65 }
     requires ends_bound { ends ≤ 2081 }
     requires blocks_bound { blocks ≤ 2081 }
@@ -166,28 +175,28 @@ fn asked(words: &[u8], tops: usize, ends: usize, blocks: usize, adjustments: usi
         &mut all_blocks[..blocks],
         &mut all_adjustments[..adjustments],
     );
-    text(words);
-    number(reply.refusal);
-    end();
+    text(rt, words)?;
+    number(rt, reply.refusal)?;
+    end(rt)
 }
 
 // expansions; refusal, intervals. 9.
-fn room(expansions: u32) {
+fn room(rt: &impl Print, expansions: u32) -> io::Result<()> {
     let reply = irr::room(expansions);
-    text(b"room");
-    number(expansions);
-    number(reply.refusal);
-    number(reply.intervals);
-    end();
+    text(rt, b"room")?;
+    number(rt, expansions)?;
+    number(rt, reply.refusal)?;
+    number(rt, reply.intervals)?;
+    end(rt)
 }
 
 // Every number of expansions that is answered, and the next one. m(m + 1) fits in 32 bits for 65,535 and not for 65,536; modulo 2^32 it is 2 and 0 for the last two.
-pub fn expansions() {
+pub fn expansions(rt: &impl Print) -> io::Result<()> {
     for m in 0..66 {
-        room(m);
+        room(rt, m)?;
     }
-    room(65_535);
-    room(65_536);
-    room(4_294_967_294);
-    room(4_294_967_295);
+    room(rt, 65_535)?;
+    room(rt, 65_536)?;
+    room(rt, 4_294_967_294)?;
+    room(rt, 4_294_967_295)
 }

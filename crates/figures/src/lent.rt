@@ -5,6 +5,7 @@ use crate::print::{placed, text};
 use crate::read::place;
 use model::limits::MAX_CAPACITY;
 use model::table::Header;
+use std::io;
 
 // A case is 11 numbers: B, G, k; two tops, two ends, two blocks, two adjustments.
 const CASES: [u32; 297] = [
@@ -335,15 +336,15 @@ const CASES: [u32; 297] = [
 ];
 
 // its place in the list of cases, from 0; refusal, bin, position
-pub fn tables() {
+pub fn tables(rt: &impl Print) -> io::Result<()> {
     let mut i: usize = 0;
     while i < 27 {
-        tried(i as u32, 11 * i);
+        tried(rt, i as u32, 11 * i)?;
         i += 1;
     }
-    short(b"one end too few", 1, 2, 2);
-    short(b"one block too few", 2, 1, 2);
-    short(b"one adjustment too few", 2, 2, 1);
+    short(rt, b"one end too few", 1, 2, 2)?;
+    short(rt, b"one block too few", 2, 1, 2)?;
+    short(rt, b"one adjustment too few", 2, 2, 1)
 }
 
 fn case(at: usize) -> u32
@@ -369,7 +370,7 @@ fn header(at: usize) -> Header
     }
 }
 
-fn tried(i: u32, at: usize)
+fn tried(rt: &impl Print, i: u32, at: usize) -> io::Result<()>
     requires { at < 287 }
 {
     let tops = pair(at + 3);
@@ -377,6 +378,7 @@ fn tried(i: u32, at: usize)
     let blocks = pair(at + 7);
     let adjustments = pair(at + 9);
     place(
+        rt,
         b"table",
         i,
         header(at),
@@ -385,11 +387,17 @@ fn tried(i: u32, at: usize)
         &blocks,
         &adjustments,
         0,
-    );
+    )
 }
 
 // So many ends, blocks and adjustments of a right table are lent.
-fn short(words: &[u8], ends: usize, blocks: usize, adjustments: usize)
+fn short(
+    rt: &impl Print,
+    words: &[u8],
+    ends: usize,
+    blocks: usize,
+    adjustments: usize,
+) -> io::Result<()>
     requires ends_bound { ends ≤ 2 }
     requires blocks_bound { blocks ≤ 2 }
     requires adjustments_bound { adjustments ≤ 2 }
@@ -406,6 +414,6 @@ fn short(words: &[u8], ends: usize, blocks: usize, adjustments: usize)
         &all_adjustments[..adjustments],
         0,
     );
-    text(words);
-    placed(reply);
+    text(rt, words)?;
+    placed(rt, reply)
 }

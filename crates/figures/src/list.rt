@@ -3,9 +3,18 @@
 use crate::print::{end, first, number, text};
 use model::limits::MAX_CAPACITY;
 use model::table::Header;
+use std::io;
 
 // B, the capacity and the last adjustment are given; the buckets; refusal; the lent result afterwards.
-fn asked(words: &[u8], b: u32, capacity: u32, adjustment: u32, buckets: &[u32], res: &mut [u32]) {
+fn asked(
+    rt: &impl Print,
+    words: &[u8],
+    b: u32,
+    capacity: u32,
+    adjustment: u32,
+    buckets: &[u32],
+    res: &mut [u32],
+) -> io::Result<()> {
     let reply = irr::places(
         Header {
             buckets: b,
@@ -20,111 +29,119 @@ fn asked(words: &[u8], b: u32, capacity: u32, adjustment: u32, buckets: &[u32], 
         buckets,
         res,
     );
-    text(words);
-    first(buckets, buckets.len());
-    end();
-    text(b"  reply");
-    number(reply.refusal);
-    end();
-    text(b"  result");
-    first(res, res.len());
-    end();
+    text(rt, words)?;
+    first(rt, buckets, buckets.len())?;
+    end(rt)?;
+    text(rt, b"  reply")?;
+    number(rt, reply.refusal)?;
+    end(rt)?;
+    text(rt, b"  result")?;
+    first(rt, res, res.len())?;
+    end(rt)
 }
 
-fn places(buckets: &[u32], res: &mut [u32]) {
-    asked(b"(14, 5) places", 14, MAX_CAPACITY, 11, buckets, res);
+fn places(rt: &impl Print, buckets: &[u32], res: &mut [u32]) -> io::Result<()> {
+    asked(rt, b"(14, 5) places", 14, MAX_CAPACITY, 11, buckets, res)
 }
 
 // A table that is refused by 11.
-fn places_0(buckets: &[u32], res: &mut [u32]) {
-    asked(b"B 0, places", 0, MAX_CAPACITY, 11, buckets, res);
+fn places_0(rt: &impl Print, buckets: &[u32], res: &mut [u32]) -> io::Result<()> {
+    asked(rt, b"B 0, places", 0, MAX_CAPACITY, 11, buckets, res)
 }
 
 // The largest bin holds 3, and its label has 8 positions.
-fn places_small(words: &[u8], capacity: u32, buckets: &[u32], res: &mut [u32]) {
-    asked(words, 14, capacity, 11, buckets, res);
+fn places_small(
+    rt: &impl Print,
+    words: &[u8],
+    capacity: u32,
+    buckets: &[u32],
+    res: &mut [u32],
+) -> io::Result<()> {
+    asked(rt, words, 14, capacity, 11, buckets, res)
 }
 
 // Every interval; one bucket twice, and intervals that are skipped.
-fn accepted() {
-    places(&[5, 6, 9, 10, 11], &mut [9; 10]);
-    places(&[3, 6, 8, 8, 13], &mut [9; 10]);
-    places(&[3, 6, 8, 8, 13], &mut [9; 11]);
+fn accepted(rt: &impl Print) -> io::Result<()> {
+    places(rt, &[5, 6, 9, 10, 11], &mut [9; 10])?;
+    places(rt, &[3, 6, 8, 8, 13], &mut [9; 10])?;
+    places(rt, &[3, 6, 8, 8, 13], &mut [9; 11])
 }
 
 // 33, also where the table is wrong, the list falls or a bucket is not below B.
-fn rooms() {
-    places(&[3, 6, 8, 8, 13], &mut [9; 9]);
-    places(&[3], &mut [9; 2]);
-    places(&[3], &mut [9; 1]);
-    places(&[3], &mut [9; 0]);
-    places_0(&[3, 6], &mut [9; 3]);
-    places_0(&[3, 6], &mut [9; 4]);
-    places(&[6, 5], &mut [9; 3]);
-    places(&[14], &mut [9; 1]);
+fn rooms(rt: &impl Print) -> io::Result<()> {
+    places(rt, &[3, 6, 8, 8, 13], &mut [9; 9])?;
+    places(rt, &[3], &mut [9; 2])?;
+    places(rt, &[3], &mut [9; 1])?;
+    places(rt, &[3], &mut [9; 0])?;
+    places_0(rt, &[3, 6], &mut [9; 3])?;
+    places_0(rt, &[3, 6], &mut [9; 4])?;
+    places(rt, &[6, 5], &mut [9; 3])?;
+    places(rt, &[14], &mut [9; 1])
 }
 
 // 32: equal neighbours, and a fall by one at the first, a middle and the last pair. The table comes before it, it before 6.
-fn falls() {
-    places(&[6, 6], &mut [9; 4]);
-    places(&[6, 5], &mut [9; 4]);
-    places(&[6, 5, 13, 13], &mut [9; 8]);
-    places(&[3, 7, 6, 13], &mut [9; 8]);
-    places(&[3, 6, 13, 12], &mut [9; 8]);
+fn falls(rt: &impl Print) -> io::Result<()> {
+    places(rt, &[6, 6], &mut [9; 4])?;
+    places(rt, &[6, 5], &mut [9; 4])?;
+    places(rt, &[6, 5, 13, 13], &mut [9; 8])?;
+    places(rt, &[3, 7, 6, 13], &mut [9; 8])?;
+    places(rt, &[3, 6, 13, 12], &mut [9; 8])?;
     asked(
+        rt,
         b"last adjustment 12, places",
         14,
         MAX_CAPACITY,
         12,
         &[6, 5],
         &mut [9; 4],
-    );
-    places(&[14, 13], &mut [9; 4]);
-    places(&[6, 5, 14], &mut [9; 6]);
+    )?;
+    places(rt, &[14, 13], &mut [9; 4])?;
+    places(rt, &[6, 5, 14], &mut [9; 6])
 }
 
 // 30: 33 and 16 come before it, it before 32 and 6.
-fn capacities() {
-    places_small(b"capacity 11, places", 11, &[6, 6], &mut [9; 4]);
-    places_small(b"capacity 10, places", 10, &[6, 6], &mut [9; 4]);
-    places_small(b"capacity 10, places", 10, &[6, 5], &mut [9; 4]);
-    places_small(b"capacity 10, places", 10, &[6, 14], &mut [9; 4]);
-    places_small(b"capacity 10, places", 10, &[6, 5], &mut [9; 3]);
-    places_small(b"capacity 8, places", 8, &[6, 6], &mut [9; 4]);
-    places_small(b"capacity 0, places", 0, &[6, 5], &mut [9; 4]);
+fn capacities(rt: &impl Print) -> io::Result<()> {
+    places_small(rt, b"capacity 11, places", 11, &[6, 6], &mut [9; 4])?;
+    places_small(rt, b"capacity 10, places", 10, &[6, 6], &mut [9; 4])?;
+    places_small(rt, b"capacity 10, places", 10, &[6, 5], &mut [9; 4])?;
+    places_small(rt, b"capacity 10, places", 10, &[6, 14], &mut [9; 4])?;
+    places_small(rt, b"capacity 10, places", 10, &[6, 5], &mut [9; 3])?;
+    places_small(rt, b"capacity 8, places", 8, &[6, 6], &mut [9; 4])?;
+    places_small(rt, b"capacity 0, places", 0, &[6, 5], &mut [9; 4])?;
     asked(
+        rt,
         b"capacity 10, last adjustment 12, places",
         14,
         10,
         12,
         &[6, 5],
         &mut [9; 4],
-    );
+    )
 }
 
 // 6.
-fn ends() {
-    places(&[13], &mut [9; 2]);
-    places(&[14], &mut [9; 2]);
-    places(&[0, 13], &mut [9; 4]);
-    places(&[0, 14], &mut [9; 4]);
-    places(&[14, 14], &mut [9; 4]);
-    places(&[0, 4_294_967_295], &mut [9; 4]);
+fn ends(rt: &impl Print) -> io::Result<()> {
+    places(rt, &[13], &mut [9; 2])?;
+    places(rt, &[14], &mut [9; 2])?;
+    places(rt, &[0, 13], &mut [9; 4])?;
+    places(rt, &[0, 14], &mut [9; 4])?;
+    places(rt, &[14, 14], &mut [9; 4])?;
+    places(rt, &[0, 4_294_967_295], &mut [9; 4])
 }
 
 // No bucket.
-fn none() {
+fn none(rt: &impl Print) -> io::Result<()> {
     let one = [0u32; 1];
-    places(&one[..0], &mut [9; 0]);
-    places(&one[..0], &mut [9; 3]);
-    places_0(&one[..0], &mut [9; 0]);
+    places(rt, &one[..0], &mut [9; 0])?;
+    places(rt, &one[..0], &mut [9; 3])?;
+    places_0(rt, &one[..0], &mut [9; 0])
 }
 
-pub fn lists() {
-    accepted();
-    rooms();
-    falls();
-    capacities();
-    ends();
-    none();
+pub fn lists(rt: &impl Print) -> io::Result<()> {
+    accepted(rt)?;
+    rooms(rt)?;
+    falls(rt)?;
+    capacities(rt)?;
+    ends(rt)?;
+    none(rt)
 }

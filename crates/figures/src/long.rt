@@ -5,6 +5,7 @@ use crate::print::{end, number, text};
 use crate::read::place;
 use model::limits::MAX_CAPACITY;
 use model::table::Header;
+use std::io;
 
 // first, first + 1, .. in every entry, first being 0 or 1
 fn rising(first: u32) -> [u32; 2082]
@@ -23,7 +24,7 @@ fn rising(first: u32) -> [u32; 2082]
 }
 
 // Each block has one interval of one bucket.
-fn blocks(count: u32) {
+fn blocks(rt: &impl Print, count: u32) -> io::Result<()> {
     let h = Header {
         buckets: count,
         capacity: MAX_CAPACITY,
@@ -34,11 +35,11 @@ fn blocks(count: u32) {
     let up = &tops[..];
     let blocks = rising(0);
     let from_zero = &blocks[..];
-    place(b"blocks", count, h, up, up, from_zero, from_zero, 0);
+    place(rt, b"blocks", count, h, up, up, from_zero, from_zero, 0)
 }
 
 // One block has all intervals, of one bucket each.
-fn intervals(count: u32) {
+fn intervals(rt: &impl Print, count: u32) -> io::Result<()> {
     let h = Header {
         buckets: count,
         capacity: MAX_CAPACITY,
@@ -48,11 +49,11 @@ fn intervals(count: u32) {
     let ends = rising(1);
     let none = [0u32; 2082];
     let zeros = &none[..];
-    place(b"intervals", count, h, &[1], &ends, zeros, zeros, 0);
+    place(rt, b"intervals", count, h, &[1], &ends, zeros, zeros, 0)
 }
 
 // A growth of 65 blocks of one bin with one bucket each: capacity, sizes; the refusals of the growth and of its move list
-fn grown(capacity: u32, buckets: u32, bins: u32) {
+fn grown(rt: &impl Print, capacity: u32, buckets: u32, bins: u32) -> io::Result<()> {
     let h = Header {
         buckets: 65,
         capacity,
@@ -82,24 +83,24 @@ fn grown(capacity: u32, buckets: u32, bins: u32) {
     );
     let mut rows = [7u32; 5];
     let listed = irr::relocations(h, up, up, from_zero, from_zero, buckets, bins, 0, &mut rows);
-    text(b"65 blocks grown");
-    number(capacity);
-    number(buckets);
-    number(bins);
-    number(reply.refusal);
-    number(listed.refusal);
-    end();
+    text(rt, b"65 blocks grown")?;
+    number(rt, capacity)?;
+    number(rt, buckets)?;
+    number(rt, bins)?;
+    number(rt, reply.refusal)?;
+    number(rt, listed.refusal)?;
+    end(rt)
 }
 
-pub fn growths() {
-    grown(9, 66, 65);
-    grown(9, 132, 66);
-    grown(10, 66, 65);
+pub fn growths(rt: &impl Print) -> io::Result<()> {
+    grown(rt, 9, 66, 65)?;
+    grown(rt, 9, 132, 66)?;
+    grown(rt, 10, 66, 65)
 }
 
-pub fn tables() {
-    blocks(65);
-    blocks(66);
-    intervals(2_081);
-    intervals(2_082);
+pub fn tables(rt: &impl Print) -> io::Result<()> {
+    blocks(rt, 65)?;
+    blocks(rt, 66)?;
+    intervals(rt, 2_081)?;
+    intervals(rt, 2_082)
 }

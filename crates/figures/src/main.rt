@@ -10,16 +10,18 @@ mod print;
 mod read;
 mod sheet;
 
-fn main() {
-    fresh::sizes();
-    fresh::maps();
-    fresh::rooms();
-    fresh::expansions();
-    read::map_3();
-    read::map_5();
-    list::lists();
-    sheet::sheets();
-    lent::tables();
-    long::tables();
-    long::growths();
+use std::io;
+
+fn main(rt: HostRuntime) -> io::Result<()> {
+    fresh::sizes(&rt)?;
+    fresh::maps(&rt)?;
+    fresh::rooms(&rt)?;
+    fresh::expansions(&rt)?;
+    read::map_3(&rt)?;
+    read::map_5(&rt)?;
+    list::lists(&rt)?;
+    sheet::sheets(&rt)?;
+    lent::tables(&rt)?;
+    long::tables(&rt)?;
+    long::growths(&rt)
 }

@@ -1,35 +1,35 @@
 // Words and numbers on standard output.
-use libc::STDOUT_FILENO;
 use model::reply::PlaceReply;
+use std::io;
 
-pub fn text(words: &[u8]) {
-    io::write_all(STDOUT_FILENO, words);
+pub fn text(rt: &impl Print, words: &[u8]) -> io::Result<()> {
+    rt.write_all(words)
 }
 
-pub fn number(n: u32) {
-    text(b" ");
-    io::print_decimal(STDOUT_FILENO, n as u64);
+pub fn number(rt: &impl Print, n: u32) -> io::Result<()> {
+    print!(rt; " {n}")
 }
 
 // The first `count` numbers.
-pub fn first(numbers: &[u32], count: usize) {
+pub fn first(rt: &impl Print, numbers: &[u32], count: usize) -> io::Result<()> {
     let mut i: usize = 0;
     while i < count {
         if i < numbers.len() {
-            number(numbers[i]);
+            number(rt, numbers[i])?;
         }
         i += 1;
     }
+    Ok(())
 }
 
-pub fn end() {
-    text(b"\n");
+pub fn end(rt: &impl Print) -> io::Result<()> {
+    text(rt, b"\n")
 }
 
 // refusal, bin, position
-pub fn placed(reply: PlaceReply) {
-    number(reply.refusal);
-    number(reply.bin);
-    number(reply.position);
-    end();
+pub fn placed(rt: &impl Print, reply: PlaceReply) -> io::Result<()> {
+    number(rt, reply.refusal)?;
+    number(rt, reply.bin)?;
+    number(rt, reply.position)?;
+    end(rt)
 }

@@ -3,9 +3,16 @@
 use crate::print::{end, number, text};
 use model::limits::{MAX_BUCKETS, MAX_CAPACITY};
 use model::table::Header;
+use std::io;
 
 // The capacity and the last adjustment are given; refusal, length; the buffer afterwards.
-fn asked(words: &[u8], capacity: u32, adjustment: u32, buffer: &mut [u8]) {
+fn asked(
+    rt: &impl Print,
+    words: &[u8],
+    capacity: u32,
+    adjustment: u32,
+    buffer: &mut [u8],
+) -> io::Result<()> {
     let reply = irr::sheet(
         Header {
             buckets: 14,
@@ -19,20 +26,20 @@ fn asked(words: &[u8], capacity: u32, adjustment: u32, buffer: &mut [u8]) {
         &[0, 6, 7, 9, adjustment],
         buffer,
     );
-    text(words);
-    number(reply.refusal);
-    number(reply.length);
-    end();
-    text(buffer);
-    end();
+    text(rt, words)?;
+    number(rt, reply.refusal)?;
+    number(rt, reply.length)?;
+    end(rt)?;
+    text(rt, buffer)?;
+    end(rt)
 }
 
-fn sheet(buffer: &mut [u8]) {
-    asked(b"(14, 5) sheet", MAX_CAPACITY, 11, buffer);
+fn sheet(rt: &impl Print, buffer: &mut [u8]) -> io::Result<()> {
+    asked(rt, b"(14, 5) sheet", MAX_CAPACITY, 11, buffer)
 }
 
 // One interval: a bucket in a bin; the most buckets in the most bins.
-fn fresh(buckets: u32, bins: u32) {
+fn fresh(rt: &impl Print, buckets: u32, bins: u32) -> io::Result<()> {
     let mut buffer = [b'.'; 52];
     let reply = irr::sheet(
         Header {
@@ -47,24 +54,30 @@ fn fresh(buckets: u32, bins: u32) {
         &[0],
         &mut buffer,
     );
-    text(b"fresh sheet");
-    number(buckets);
-    number(bins);
-    number(reply.refusal);
-    number(reply.length);
-    end();
-    text(&buffer);
-    end();
+    text(rt, b"fresh sheet")?;
+    number(rt, buckets)?;
+    number(rt, bins)?;
+    number(rt, reply.refusal)?;
+    number(rt, reply.length)?;
+    end(rt)?;
+    text(rt, &buffer)?;
+    end(rt)
 }
 
-pub fn sheets() {
-    sheet(&mut [b'.'; 260]);
-    sheet(&mut [b'.'; 255]);
-    sheet(&mut [b'.'; 254]);
-    sheet(&mut []);
-    asked(b"P 11, sheet", 11, 11, &mut [b'.'; 255]);
-    asked(b"P 10, sheet", 10, 11, &mut [b'.'; 254]);
-    asked(b"adjustment 12, sheet", MAX_CAPACITY, 12, &mut [b'.'; 254]);
-    fresh(1, 1);
-    fresh(MAX_BUCKETS, 65_535);
+pub fn sheets(rt: &impl Print) -> io::Result<()> {
+    sheet(rt, &mut [b'.'; 260])?;
+    sheet(rt, &mut [b'.'; 255])?;
+    sheet(rt, &mut [b'.'; 254])?;
+    sheet(rt, &mut [])?;
+    asked(rt, b"P 11, sheet", 11, 11, &mut [b'.'; 255])?;
+    asked(rt, b"P 10, sheet", 10, 11, &mut [b'.'; 254])?;
+    asked(
+        rt,
+        b"adjustment 12, sheet",
+        MAX_CAPACITY,
+        12,
+        &mut [b'.'; 254],
+    )?;
+    fresh(rt, 1, 1)?;
+    fresh(rt, MAX_BUCKETS, 65_535)
 }

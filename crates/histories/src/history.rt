@@ -7,6 +7,7 @@ use crate::total::plus;
 use crate::{compare, directory, state};
 use model::reply::TableReply;
 use model::table::Header;
+use std::io;
 
 // The ends, blocks and adjustments of a table.
 type Rest = [[u32; 2081]; 3];
@@ -94,6 +95,7 @@ fn accepted(
 // A refused growth. 8 depends on the intervals, which the directory does not know: a growth adds at most as many as there are
 // and one, or one a block. The move list does not test 8, and a growth of the buckets alone moves none.
 fn refused(
+    rt: &impl Print,
     h: Header,
     tops: &[u32],
     ends: &[u32],
@@ -102,15 +104,15 @@ fn refused(
     reply: TableReply,
     d: &Directory,
     s: State,
-) -> State {
+) -> io::Result<State> {
     let right = refusal(s);
     let s = compare::page(h, tops, ends, blocks, adjustments, d, 0, right, 0, 0, 1, s);
     let s = zeros(reply, s);
     if reply.refusal == 8 {
         let s = tight(h, tops, ends, blocks, adjustments, d, s);
-        return too_many(h, s);
+        return too_many(rt, h, s);
     }
-    same(s, reply.refusal, right)
+    Ok(same(s, reply.refusal, right))
 }
 
 // What 8 refuses, asked of the same table with the least capacity: 31 comes before 8, where it holds.
@@ -163,31 +165,35 @@ fn zeros(reply: TableReply, s: State) -> State {
     same(s, reply.header.interval_count, 0)
 }
 
-fn too_many(h: Header, s: State) -> State {
-    text(b"refused by 8: buckets, blocks, intervals, buckets and bins asked for");
-    number(h.buckets);
-    number(h.block_count);
-    number(h.interval_count);
-    number(s.asked_buckets);
-    number(s.asked_bins);
-    end();
+fn too_many(rt: &impl Print, h: Header, s: State) -> io::Result<State> {
+    text(
+        rt,
+        b"refused by 8: buckets, blocks, intervals, buckets and bins asked for",
+    )?;
+    number(rt, h.buckets)?;
+    number(rt, h.block_count)?;
+    number(rt, h.interval_count)?;
+    number(rt, s.asked_buckets)?;
+    number(rt, s.asked_bins)?;
+    end(rt)?;
     if h.interval_count <= 1_040 {
         let mut after = s;
         after.failed = plus(s.failed, 1);
-        return after;
+        return Ok(after);
     }
-    s
+    Ok(s)
 }
 
 // One growth, to a new table.
 fn grow(
+    rt: &impl Print,
     tops: &[u32; 65],
     rest: &Rest,
     new_tops: &mut [u32; 65],
     new_rest: &mut Rest,
     d: &mut Directory,
     s: State,
-) -> State {
+) -> io::Result<State> {
     let h = s.header;
     let tops = &tops[..];
     let ends = &rest[0][..];
@@ -195,10 +201,10 @@ fn grow(
     let adjustments = &rest[2][..];
     let reply = expand(h, tops, ends, blocks, adjustments, s, new_tops, new_rest);
     if reply.refusal != 0 {
-        return refused(h, tops, ends, blocks, adjustments, reply, d, s);
+        return refused(rt, h, tops, ends, blocks, adjustments, reply, d, s);
     }
     let s = accepted(h, tops, ends, blocks, adjustments, reply, d, s);
-    compare::map(reply.header, new_tops, new_rest, d, s)
+    Ok(compare::map(reply.header, new_tops, new_rest, d, s))
 }
 
 // A fresh map, compared.
@@ -210,24 +216,37 @@ fn begun(tops: &mut [u32; 65], rest: &mut Rest, d: &mut Directory, s: State) -> 
 }
 
 // One growth, after which the new table, if there is one, is the table.
-fn step(tops: &mut [u32; 65], rest: &mut Rest, d: &mut Directory, s: State) -> State {
+fn step(
+    rt: &impl Print,
+    tops: &mut [u32; 65],
+    rest: &mut Rest,
+    d: &mut Directory,
+    s: State,
+) -> io::Result<State> {
     let mut new_tops = [0u32; 65];
     let mut new_rest = [[0u32; 2081]; 3];
-    let after = grow(tops, rest, &mut new_tops, &mut new_rest, d, s);
+    let after = grow(rt, tops, rest, &mut new_tops, &mut new_rest, d, s)?;
     if s.accepted < after.accepted {
         *tops = new_tops;
         *rest = new_rest;
     }
-    after
+    Ok(after)
 }
 
 // A history, with so many growths.
-pub fn play(before: State, most_buckets: u32, most_bins: u32, growths: u32) -> State {
+pub fn play(
+    rt: &impl Print,
+    before: State,
+    most_buckets: u32,
+    most_bins: u32,
+    growths: u32,
+) -> io::Result<State> {
     let mut tops = [0u32; 65];
     let mut rest = [[0u32; 2081]; 3];
     let mut d = [[0u32; 65536]; 6];
     let s = begun(&mut tops, &mut rest, &mut d, before);
     grow_on(
+        rt,
         &mut tops,
         &mut rest,
         &mut d,
@@ -239,6 +258,7 @@ pub fn play(before: State, most_buckets: u32, most_bins: u32, growths: u32) -> S
 }
 
 fn grow_on(
+    rt: &impl Print,
     tops: &mut [u32; 65],
     rest: &mut Rest,
     d: &mut Directory,
@@ -246,14 +266,14 @@ fn grow_on(
     most_buckets: u32,
     most_bins: u32,
     growths: u32,
-) -> State {
+) -> io::Result<State> {
     let mut s = before;
     let mut i: u32 = 0;
     while i < growths {
         let ask = asked(s, most_buckets, most_bins, i);
         i += 1;
-        let after = step(tops, rest, d, ask);
+        let after = step(rt, tops, rest, d, ask)?;
         s = after;
     }
-    s
+    Ok(s)
 }

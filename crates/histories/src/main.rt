@@ -20,25 +20,27 @@ use crate::state::{State, below, draw, fresh};
 use crate::total::{entry, least, minus, plus};
 use model::limits::MAX_CAPACITY;
 use model::table::Header;
+use std::io;
 
 // So many random histories of so many growths each, from at most `first` buckets.
 fn random(
+    rt: &impl Print,
     before: State,
     histories: u32,
     first: u32,
     most_buckets: u32,
     most_bins: u32,
     growths: u32,
-) -> State {
+) -> io::Result<State> {
     let mut s = before;
     let mut i: u32 = 0;
     while i < histories {
         let begin = started(s, first);
-        let after = play(begin, most_buckets, most_bins, growths);
+        let after = play(rt, begin, most_buckets, most_bins, growths)?;
         s = after;
         i += 1;
     }
-    s
+    Ok(s)
 }
 
 fn started(s: State, first: u32) -> State {
@@ -67,57 +69,60 @@ fn capacity(seed: u32, buckets: u32, bins: u32) -> u32 {
 }
 
 // Document 01's figure of the most bins: Fresh (65535, 65535).
-fn widest(before: State) -> State {
+fn widest(rt: &impl Print, before: State) -> io::Result<State> {
     let s = play(
+        rt,
         fresh(before, before.seed, 65_535, 65_535, MAX_CAPACITY),
         0,
         0,
         0,
-    );
-    text(b"fresh map: buckets, bins, comparisons, failed");
-    number(s.buckets);
-    number(s.bins);
-    number(minus(s.compared, before.compared));
-    number(minus(s.failed, before.failed));
-    end();
-    s
+    )?;
+    text(rt, b"fresh map: buckets, bins, comparisons, failed")?;
+    number(rt, s.buckets)?;
+    number(rt, s.bins)?;
+    number(rt, minus(s.compared, before.compared))?;
+    number(rt, minus(s.failed, before.failed))?;
+    end(rt)?;
+    Ok(s)
 }
 
-fn refusals(s: State) {
+fn refusals(rt: &impl Print, s: State) -> io::Result<()> {
     let mut i: usize = 1;
     while i < 32 {
-        refusal(i as u32, s.refused[i]);
+        refusal(rt, i as u32, s.refused[i])?;
         i += 1;
     }
+    Ok(())
 }
 
-fn refusal(i: u32, count: u32) {
+fn refusal(rt: &impl Print, i: u32, count: u32) -> io::Result<()> {
     if count != 0 {
-        text(b"growths refused by");
-        number(i);
-        number(count);
-        end();
+        text(rt, b"growths refused by")?;
+        number(rt, i)?;
+        number(rt, count)?;
+        end(rt)?;
     }
+    Ok(())
 }
 
-fn print_histories(s: State) {
-    line(b"histories", s.histories);
-    line(b"accepted growths", s.accepted);
-    line(b"most intervals", s.intervals);
+fn print_histories(rt: &impl Print, s: State) -> io::Result<()> {
+    line(rt, b"histories", s.histories)?;
+    line(rt, b"accepted growths", s.accepted)?;
+    line(rt, b"most intervals", s.intervals)
 }
 
-fn print_comparisons(s: State) {
-    line(b"buckets", s.buckets_seen);
-    line(b"bins", s.bins_seen);
-    line(b"rows", s.rows_seen);
-    line(b"listed buckets", s.listed_seen);
-    line(b"files", s.files_seen);
-    line(b"lines", s.lines_seen);
-    line(b"comparisons", s.compared);
-    line(b"failed", s.failed);
+fn print_comparisons(rt: &impl Print, s: State) -> io::Result<()> {
+    line(rt, b"buckets", s.buckets_seen)?;
+    line(rt, b"bins", s.bins_seen)?;
+    line(rt, b"rows", s.rows_seen)?;
+    line(rt, b"listed buckets", s.listed_seen)?;
+    line(rt, b"files", s.files_seen)?;
+    line(rt, b"lines", s.lines_seen)?;
+    line(rt, b"comparisons", s.compared)?;
+    line(rt, b"failed", s.failed)
 }
 
-fn main() {
+fn main(rt: HostRuntime) -> io::Result<()> {
     let s = State {
         histories: 0,
         accepted: 0,
@@ -148,13 +153,13 @@ fn main() {
             interval_count: 0,
         },
     };
-    let s = random(s, 40, 12, 4, 2, 30);
-    let s = random(s, 10, 60, 30, 5, 30);
-    let s = random(s, 4, 200, 300, 30, 24);
-    let s = random(s, 2, 30, 5, 1, 150);
-    let s = play(fresh(s, s.seed, 200, 1, MAX_CAPACITY), 0, 0, 116);
-    let s = widest(s);
-    print_histories(s);
-    refusals(s);
-    print_comparisons(s);
+    let s = random(&rt, s, 40, 12, 4, 2, 30)?;
+    let s = random(&rt, s, 10, 60, 30, 5, 30)?;
+    let s = random(&rt, s, 4, 200, 300, 30, 24)?;
+    let s = random(&rt, s, 2, 30, 5, 1, 150)?;
+    let s = play(&rt, fresh(s, s.seed, 200, 1, MAX_CAPACITY), 0, 0, 116)?;
+    let s = widest(&rt, s)?;
+    print_histories(&rt, s)?;
+    refusals(&rt, s)?;
+    print_comparisons(&rt, s)
 }

@@ -1,8 +1,8 @@
 // The program rackmap: lines on standard input, replies on standard output.
 #![tactic(auto)]
 
-fn main() {
+fn main(rt: HostRuntime) {
     let mut input_log = [0; 0];
     let mut text_log = [0; 0];
-    shell::run(&mut input_log, &mut text_log);
+    shell::run(rt, &mut input_log, &mut text_log);
 }

@@ -41,6 +41,7 @@ pub struct Outcome {
 // The machine's turns, the text of each recorded in the log from place `text` on and written, until nothing is left to do or a write
 // fails.
 fn work(
+    rt: HostRuntime,
     mut m: Machine,
     block: &mut [u8; BLOCK],
     tops: &mut [u32; BLOCKS],
@@ -59,7 +60,7 @@ fn work(
     requires ready_now { ReadyNow m block.old tops.old ends.old blocks.old adjustments.old second_tops.old second_ends.old second_blocks.old second_adjustments.old }
     requires text_in_bounds { text ≤ length text_log.old }
     ensures { Worked m (rack_of m.state tops.old ends.old blocks.old adjustments.old second_tops.old second_ends.old second_blocks.old second_adjustments.old) block.old text_log.old text result
-            (rack_of result.machine.state tops.new ends.new blocks.new adjustments.new second_tops.new second_ends.new second_blocks.new second_adjustments.new) block.new text_log.new }
+        (rack_of result.machine.state tops.new ends.new blocks.new adjustments.new second_tops.new second_ends.new second_blocks.new second_adjustments.new) block.new text_log.new }
 {
     loop {
         let after = turn(
@@ -77,7 +78,7 @@ fn work(
             out,
         );
         m = after.machine;
-        let written = write(out, after.put, text_log, text);
+        let written = write(rt.stdout(), out, after.put, text_log, text);
         text = written.place;
         if written.failed {
             return Done {
@@ -99,6 +100,7 @@ fn work(
 // The whole input, block by block, until it ends or a write fails. Nothing says that an input ends: the count of reads is what
 // falls.
 fn serve(
+    rt: HostRuntime,
     input_log: &mut [u8],
     text_log: &mut [u8],
     block: &mut [u8; BLOCK],
@@ -122,10 +124,11 @@ fn serve(
     let mut text = 0;
     let mut reads = 18_446_744_073_709_551_615u64;
     while 0 < reads {
-        let came = read(block, m.size, input_log, input);
+        let came = read(rt.stdin(), block, m.size, input_log, input);
         input = came.place;
         m = receive(m, block, came.got);
         let done = work(
+            rt,
             m,
             block,
             tops,
@@ -168,7 +171,7 @@ fn serve(
 
 // The program, with its two whole tables. What it reads and what it writes is recorded in two logs, as far as they reach, so that
 // its promise can speak of it; the programs lend logs of no length, since they need no record.
-pub fn run(input_log: &mut [u8], text_log: &mut [u8]) -> Outcome
+pub fn run(rt: HostRuntime, input_log: &mut [u8], text_log: &mut [u8]) -> Outcome
     ensures { Ran input_log.old text_log.old input_log.new text_log.new result }
 {
     let mut block = [0; BLOCK];
@@ -183,6 +186,7 @@ pub fn run(input_log: &mut [u8], text_log: &mut [u8]) -> Outcome
     let mut rows = [0; NUMBERS];
     let mut out = [0; OUT];
     serve(
+        rt,
         input_log,
         text_log,
         &mut block,

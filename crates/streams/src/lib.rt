@@ -5,6 +5,8 @@
 ghost use Rattle.std.specs.Prelude.{◌≤◌, ◌<◌, length};
 ghost use Rattle.streams.specs.Streams.{Logged, Read, Written};
 
+use std::io::{Read, Stdin, Stdout};
+
 // A read: how many bytes it brought, 0 where the input has ended or cannot be read; and the place reached in the log.
 #[derive(Clone, Copy)]
 pub struct Input {
@@ -20,21 +22,20 @@ pub struct Output {
 }
 
 // Reads behind the first `size` bytes of a block, and records the bytes that it brought in the log from place `at` on.
-pub fn read(block: &mut [u8], size: usize, log: &mut [u8], at: usize) -> Input
+pub fn read(mut stdin: Stdin, block: &mut [u8], size: usize, log: &mut [u8], at: usize) -> Input
     requires size_in_bounds { size < length block.old }
     requires at_in_bounds { at ≤ length log.old }
     ensures { Read block.old size log.old at result block.new log.new }
 {
     let rest = &mut block[size..];
-    let answer = libc::read(0, rest);
-    let got = io::count(answer, rest);
+    let got = stdin.read(rest).unwrap_or(0);
     let brought = &rest[..];
     let place = record(log, at, &brought[..got]);
     Input { got, place }
 }
 
 // Writes the first n bytes of `out`, and records them in the log from place `at` on: to write nothing does not fail.
-pub fn write(out: &[u8], n: usize, log: &mut [u8], at: usize) -> Output
+pub fn write(stdout: Stdout, out: &[u8], n: usize, log: &mut [u8], at: usize) -> Output
     requires n_in_bounds { n ≤ length out.now }
     requires at_in_bounds { at ≤ length log.old }
     ensures { Written out.now n log.old at result log.new }
@@ -47,11 +48,8 @@ pub fn write(out: &[u8], n: usize, log: &mut [u8], at: usize) -> Output
             place,
         };
     }
-    let whole = io::write_all(1, text);
-    Output {
-        failed: !whole,
-        place,
-    }
+    let failed = stdout.write_all(text).is_err();
+    Output { failed, place }
 }
 
 // Records bytes in a log from place `at` on, as many as it has room for: the place reached.
