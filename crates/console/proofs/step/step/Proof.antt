@@ -4,44 +4,44 @@ use borrow.Author.Rules.{rules}
 use Rattle.console.proofs.step.step.Statement.{statement}
 use Rattle.console.proofs.step.step.Tie as tie
 
-read-requires : tie.Need-read-requires
+read-requires : tie.Need-read-command-requires
 read-requires c κs = search rules
 
-act-requires : tie.Need-act-requires
+act-requires : tie.Need-act-done-requires
 act-requires c κs =
     let map = c.before.before.before.before.before.before.before.before in
-    second_right _ _ _ map.if1.true map.before.before.before.before.requires.1
+    second_right _ _ _ map.if-state.true map.requires.1
 
 reply-requires : tie.Need-reply-requires
-reply-requires c κs = c.before.before.before.before.before.before.before.before.before.before.before.before.before.before.requires.0
+reply-requires c κs = c.requires.0
 
-same_length : tie.Need-same-length
+same_length : tie.Need-shape_of-out-then-state
 same_length c = search rules
 
-returns : tie.Need-returns
+returns : tie.Need-returns-then-state
 returns c =
     let map = c.before.before.before.before.before.before.before.before.before.before.before.before.before in
-    let said = c.before.before.reply.ensures in
-    second_served _ _ _ _ _ _ _ map.before.read.ensures _ _ _ _ _ said.0 said.1 map.if1.true
-    c.before.before.before.before.act.ensures
+    let said = c.reply.ensures in
+    second_served _ _ _ _ _ _ _ map.read-command.ensures _ _ _ _ _ said.0 said.1 map.if-state.true
+    c.act-done.ensures
 
-act-requires-2 : tie.Need-act-requires-2
+act-requires-2 : tie.Need-act-done-requires-2
 act-requires-2 c κs =
     let map = c.before.before.before.before.before.before.before.before in
-    first_right _ _ _ map.if1.false map.before.before.before.before.requires.1
+    first_right _ _ _ map.if-state.false map.requires.1
 
 reply-requires-2 : tie.Need-reply-requires-2
-reply-requires-2 c κs = c.before.before.before.before.before.before.before.before.before.before.before.before.before.before.requires.0
+reply-requires-2 c κs = c.requires.0
 
-same-length-2 : tie.Need-same-length-2
+same-length-2 : tie.Need-shape_of-out
 same-length-2 c = search rules
 
-returns-2 : tie.Need-returns-2
+returns-2 : tie.Need-returns
 returns-2 c =
     let map = c.before.before.before.before.before.before.before.before.before.before.before.before.before in
-    let said = c.before.before.reply2.ensures in
-    first_served _ _ _ _ _ _ _ map.before.read.ensures _ _ _ _ _ said.0 said.1 map.if1.false
-    c.before.before.before.before.act2.ensures
+    let said = c.reply-2.ensures in
+    first_served _ _ _ _ _ _ _ map.read-command.ensures _ _ _ _ _ said.0 said.1 map.if-state.false
+    c.act-done-2.ensures
 
 pub step_spec : {M : Type 1} → statement M
 step_spec =
