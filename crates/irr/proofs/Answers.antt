@@ -1,12 +1,12 @@
 -- Laws of the calls' replies: what a refusal by the table's tests, or by the tests after them, makes of each. Assumes nothing.
-use Prim.Native.Nat.{ℕ, ◌+◌, ◌*◌, ◌≤◌, ◌<◌}
+use Prim.Native.Nat.{ℕ, ◌*◌, ◌≤◌, ◌<◌}
 use mathlib.Core.Path.{◌≡◌, refl, sym, ◌∙◌, ap}
 use mathlib.Core.Bool.{true, false}
 use mathlib.Core.List.{List, [], ◌++◌}
 use lib.ListN.{length}
 use borrow.Author.Tests.{lt-ltb, le-ltb}
 use Rattle.model.specs.Basics.{if◌then◌else◌}
-use Rattle.model.specs.Table.{Shape, Table, Arrays, arrays, table, header, over}
+use Rattle.model.specs.Table.{Shape, Table, Arrays, arrays, table, over}
 use Rattle.model.specs.Refusal.{first, room_short, result_short}
 use Rattle.model.specs.Place.{places}
 use Rattle.model.specs.Search.{place_at}

@@ -4,7 +4,7 @@ use mathlib.Core.Path.{◌≡◌, sym, ◌∙◌, ap}
 use mathlib.Core.Bool.{true, false}
 use mathlib.Core.List.{[], ◌∷◌, ◌++◌, append_assoc}
 use Rattle.model.specs.Basics.{if◌then◌else◌}
-use Rattle.model.specs.Table.{Shape, Arrays, table, header}
+use Rattle.model.specs.Table.{Shape, Arrays, table}
 use Rattle.model.specs.Refusal.{first, room_short, intervals_full}
 use Rattle.model.specs.Expansion.{expanded, moved}
 use Rattle.model.specs.Calls.{

@@ -12,7 +12,6 @@ use borrow.Author.Tests.{lt-ltb, le-ltb, ne_eqb}
 use Rattle.model.specs.Basics.{if◌then◌else◌, from, joined, before}
 use Rattle.model.specs.Decimal.{digits_only, decimal}
 use Rattle.model.specs.Table.{Arrays, arrays, table, first_bin, block_bins}
-use Rattle.model.specs.Place.{bin}
 use Rattle.model.specs.Refusal.{first}
 use Rattle.model.specs.Search.{interval_at}
 use Rattle.model.specs.Sound.{Formed, Sound}

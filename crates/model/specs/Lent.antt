@@ -1,6 +1,6 @@
 -- What the contracts say of lent memory: the lists that a call is lent, or leaves. Assumes nothing.
 use Rattle.std.specs.Prelude.{ℕ, List}
-use Rattle.model.specs.Table.{Table, Arrays, arrays, table}
+use Rattle.model.specs.Table.{Table, arrays, table}
 use Rattle.model.specs.Sound.{Formed}
 use Rattle.model.specs.declared.table.Header.{Header}
 

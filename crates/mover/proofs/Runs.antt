@@ -7,7 +7,7 @@ use lib.ListN.{length, get_or, set}
 use Rattle.model.specs.Expansion.{differs}
 use Rattle.model.specs.declared.reply.CarryReply.{CarryReply}
 use Rattle.model.proofs.Counts.{bit_cases, below_or}
-use Rattle.model.proofs.Refusals.{accepted, refused}
+use Rattle.model.proofs.Refusals.{refused}
 use Rattle.mover.specs.Carry.{
   Growth,
   old_table,

@@ -1,5 +1,5 @@
 -- The rows of the parts of an interval that move, and what a page has of them. Assumes nothing.
-use Rattle.std.specs.Prelude.{ℕ, ◌+◌, ◌-◌, ◌*◌, ◌≤◌, ◌<◌, List, [], ◌∷◌, ◌++◌, ◌≡◌, true, eqb, length}
+use Rattle.std.specs.Prelude.{ℕ, ◌-◌, ◌*◌, ◌≤◌, ◌<◌, List, [], ◌∷◌, ◌++◌, ◌≡◌, true, eqb, length}
 use Rattle.model.specs.Basics.{if◌then◌else◌, from}
 use Rattle.model.specs.Limits.{max_buckets}
 use Rattle.model.specs.Table.{Shape, Interval, interval, Table}

@@ -1,7 +1,7 @@
 -- The walk of rule 16 that keeps, for each block, the end less the adjustment of its latest interval, modulo 2^32: while
 -- every adjustment so far is right that is what the block holds, and from the first wrong one on the gathered differences
 -- are not 0. Assumes nothing.
-use Rattle.std.proofs.Common.{◌≡◌, ℕ, ◌+◌, ◌-◌, ◌%◌, ◌<◌, ◌≤◌, Bool, true, false, not, eqb, List, [], length, get_or, set, replicate, sym, refl, ap, ◌∙◌, subst, add-one, arith, length-set, eq-eqb, ne_eqb}
+use Rattle.std.proofs.Common.{◌≡◌, ℕ, ◌+◌, ◌-◌, ◌%◌, ◌<◌, ◌≤◌, Bool, false, not, eqb, List, [], length, get_or, set, replicate, sym, refl, ap, ◌∙◌, subst, add-one, arith, length-set, eq-eqb, ne_eqb}
 use mathlib.Core.Bool.{false≢true}
 use native.Mathlib.Nat.{div-add-mod}
 use native.Mathlib.Decide.{ℕ_discrete}

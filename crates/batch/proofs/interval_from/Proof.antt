@@ -3,7 +3,6 @@ use Prim.Native.Nat.{◌+◌, ◌-◌, ◌≤◌}
 use mathlib.Core.Path.{◌≡◌, ap}
 use native.Mathlib.Omega.{arith}
 use lib.ListN.{get_or}
-use Rattle.model.specs.Basics.{before}
 use Rattle.model.proofs.Rules.{before_some}
 use Rattle.lookup.specs.Search.{Among}
 use Rattle.batch.proofs.Passing.{ends_fewer, among_more, among_last, Is_among_later}

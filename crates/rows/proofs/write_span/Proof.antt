@@ -1,6 +1,5 @@
 -- `rows::write_span` meets its contract: the rows up to bucket x are written, and the slots are those of x. Assumes nothing.
 use Prim.Native.Nat.{◌-◌}
-use native.Mathlib.Nat.{lt_of_le_of_lt}
 use native.Mathlib.Omega.{arith}
 use borrow.Author.Count.{falls}
 use borrow.Author.Rules.{rules}

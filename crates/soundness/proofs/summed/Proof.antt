@@ -7,8 +7,6 @@ use Rattle.model.proofs.Holdings.{Sums, sums_none}
 use Rattle.soundness.proofs.Turns.{Turn, turn, turned}
 use Rattle.soundness.proofs.summed.Statement.{statement}
 use Rattle.soundness.proofs.summed.Tie as tie
-use Rattle.soundness.proofs.summed.Reads as reads
-use Rattle.soundness.proofs.summed.Lts as lts
 
 abbrev invariant-loop : tie.invariant-loop-i
 invariant-loop h ends blocks sums₀ start₀ i₀ sums start i =
