@@ -28,13 +28,13 @@ CXXFLAGS ?= -O2 -Wall -Wextra -Werror
 INSTALL ?= install
 
 OUT := target/c
-PROVED := target/staticlib/libcapi.a
+PROVED := crates/capi/out/libcapi.a
 PROGRAM := target/bin/rackmap
 ARCHIVE ?= $(OUT)/libirr.a
 # the version, from the header alone
 VERSION := $(shell sed -n 's/^.define IRR_VERSION_[MP][A-Z]* \([0-9]*\)$$/\1/p' include/irr.h | paste -s -d .)
 COMPILE = $(CC) $(CPPFLAGS) $(CFLAGS) -std=c11 -Iinclude
-CRATES := crates.txt $(shell find crates -type f)
+CRATES := crates.txt $(shell find crates -name out -prune -o -type f -print)
 INSTALLED = $(LIBDIR)/libirr.a $(INCLUDEDIR)/irr.h $(LIBDIR)/pkgconfig/irr.pc $(BINDIR)/rackmap \
 	$(MANDIR)/man1/rackmap.1 $(MANDIR)/man3/irr.3
 
@@ -48,8 +48,8 @@ program: $(PROGRAM)
 example: $(OUT)/rack $(OUT)/carry $(OUT)/sheet
 
 $(PROVED): $(CRATES)
-	tools/prove irr
-	rt staticlib capi
+	tools/prove capi
+	cd crates/capi && rt lib
 	@touch $@
 
 $(OUT)/libirr.a: $(PROVED)
@@ -59,7 +59,9 @@ $(OUT)/libirr.a: $(PROVED)
 
 $(PROGRAM): $(CRATES)
 	tools/prove rackmap
-	@touch $@
+	cd crates/rackmap && rt run < /dev/null
+	@mkdir -p $(dir $@)
+	cp crates/rackmap/out/rackmap $@
 
 # a file that changes when another library is named
 $(OUT)/archive: FORCE
@@ -104,4 +106,4 @@ sources:
 	done
 
 clean:
-	rm -rf $(OUT) target/staticlib
+	rm -rf $(OUT)

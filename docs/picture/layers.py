@@ -35,7 +35,8 @@ def read():
             named = False
         if ":" in code:
             name, _, used = code.partition(":")
-            uses[name.strip()], words[name.strip()], named = used.split(), " ".join(comment), True
+            name = name.split()[0]
+            uses[name], words[name], named = used.split(), " ".join(comment), True
     return {name: [u for u in used if u in uses] for name, used in uses.items()}, words
 
 

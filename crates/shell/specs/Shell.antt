@@ -1,7 +1,7 @@
 -- What the shell does, as far as its logs tell. Assumes nothing.
 use Rattle.std.specs.Prelude.{ℕ, ◌+◌, ◌^◌, ◌≤◌, ◌<◌, ◌≡◌, true, false, List, [], ◌++◌, length}
 use Rattle.model.specs.Console.{output}
-use Rattle.console.specs.Rack.{Rack, rack_given, rack_left}
+use Rattle.console.specs.Rack.{Rack}
 use Rattle.standing.specs.Standing.{Goes}
 use Rattle.buffers.specs.Machine.{stands, bytes_of, Rests, Ready}
 use Rattle.buffers.specs.declared.Machine.{Machine}

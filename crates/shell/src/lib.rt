@@ -115,8 +115,8 @@ fn serve(
     rows: &mut [u32; NUMBERS],
     out: &mut [u8; OUT],
 ) -> Outcome
-    requires adjustments_value { room_short (arrays tops.old ends.old blocks.old adjustments.old) ≡ false }
-    requires second_adjustments_value { room_short (arrays second_tops.old second_ends.old second_blocks.old second_adjustments.old) ≡ false }
+    requires room { room_short (arrays tops.old ends.old blocks.old adjustments.old) ≡ false }
+    requires second_room { room_short (arrays second_tops.old second_ends.old second_blocks.old second_adjustments.old) ≡ false }
     ensures { Ran input_log.old text_log.old input_log.new text_log.new result }
 {
     let mut m = start();

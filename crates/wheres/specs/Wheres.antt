@@ -3,7 +3,7 @@ use Rattle.std.specs.Prelude.{ℕ, ◌≤◌, ◌≡◌, false, List, length, ta
 use Rattle.model.specs.Table.{Table, Arrays}
 use Rattle.model.specs.declared.table.Header.{Header}
 use Rattle.session.specs.Maps.{is_empty, map_of}
-use Rattle.console.specs.Rack.{Rack, rack, held, rack_given}
+use Rattle.console.specs.Rack.{Rack, rack, held}
 use Rattle.standing.specs.Standing.{Goes}
 use Rattle.buffers.specs.Machine.{stands, Sane}
 use Rattle.buffers.specs.declared.Machine.{Machine}

@@ -5,7 +5,7 @@ ghost use Rattle.std.specs.Prelude.{◌≡◌, false, ◌≤◌, length};
 ghost use Rattle.model.specs.Lent.{LentFormed, lent};
 ghost use Rattle.console.specs.Rack.{rack_of};
 ghost use Rattle.buffers.specs.Machine.{SaneNow};
-ghost use Rattle.wheres.specs.Wheres.{Places, Went};
+ghost use Rattle.wheres.specs.Wheres.{Places, Went, on_to};
 
 use buffers::{LAST, Machine, OUT};
 use console::step::put_where;

@@ -8,4 +8,5 @@ returns : tie.Need-returns
 returns c = begins _ refl refl refl refl refl refl
 
 pub start_spec : {M : Type 1} → statement M
-start_spec = tie.close (tie.spec returns)
+start_spec = tie.close (tie.spec
+    returns)

@@ -6,60 +6,44 @@ use borrow.Author.Rules.{rules}
 use Rattle.machine.proofs.turn.Statement.{statement}
 use Rattle.machine.proofs.turn.Tie as tie
 
-page-requires : tie.Need-page-requires
+page-requires : tie.Need-page-listed-requires
 page-requires c κs = search rules
 
-returns : tie.Need-returns
+returns : tie.Need-returns-then-listed
 returns c =
-    let page = c.before in
-    let pre = page.before.before.before.before.before.before.before.before.before.before.before.before.requires in
-    page_turns pre page.page.ensures c.if1.true
+    page_turns c.requires c.page-listed.ensures c.if-listed.true
 
-slice-reshare-prefix-answer : tie.Need-slice-reshare-prefix-answer
+slice-reshare-prefix-answer : tie.Need-slice_bounds-answer-end
 slice-reshare-prefix-answer c =
-    let page = c.before in
-    let pre = page.before.before.before.before.before.before.before.before.before.before.before.before.requires in
-    page_size pre page.page.ensures
+    page_size c.requires c.page-listed.ensures
 
-slice-aggregate-answer : tie.Need-slice-aggregate-answer
+slice-aggregate-answer : tie.Need-slice_bounds-answer-end-2
 slice-aggregate-answer c =
-    let page = c.before.before in
-    let pre = page.before.before.before.before.before.before.before.before.before.before.before.before.requires in
-    sym (length-take-le _ _ (page_size pre page.page.ensures))
+    sym (length-take-le _ _ (page_size c.requires c.page-listed.ensures))
 
-answer-requires : tie.Need-answer-requires
+answer-requires : tie.Need-answer-answered-requires
 answer-requires c κs =
-    let listed = c.before.before.before.before.before.before.before.before.before.before in
-    let page = listed.before in
-    let pre = page.before.before.before.before.before.before.before.before.before.before.before.before.requires in
-    page_answers pre page.page.ensures listed.if1.false
+    page_answers c.requires c.page-listed.ensures c.if-listed.false
 
-same_length : tie.Need-same-length
+same_length : tie.Need-shape_of-block-then-answered
 same_length c = search rules
 
-returns-2 : tie.Need-returns-2
+returns-2 : tie.Need-returns-then-answered
 returns-2 c =
-    let page = c.before.before.before.before.before.before.before.before.before.before.before.before.before in
-    let pre = page.before.before.before.before.before.before.before.before.before.before.before.before.requires in
-    lines_turns pre page.page.ensures c.before.answer.ensures c.if2.true
+    lines_turns c.requires c.page-listed.ensures c.answer-answered.ensures c.if-answered.true
 
 keep-requires : tie.Need-keep-requires
 keep-requires c κs =
-    let page = c.before.before.before.before.before.before.before.before.before.before.before.before.before.before in
-    let pre = page.before.before.before.before.before.before.before.before.before.before.before.before.requires in
-    lines_places pre page.page.ensures c.before.before.answer.ensures
+    lines_places c.requires c.page-listed.ensures c.answer-answered.ensures
 
-same-length-2 : tie.Need-same-length-2
+same-length-2 : tie.Need-shape_of-block
 same-length-2 c = search rules
 
-returns-3 : tie.Need-returns-3
+returns-3 : tie.Need-returns
 returns-3 c =
-    let lines = c.before.before.before.before.before in
-    let page = lines.before.before.before.before.before.before.before.before.before.before.before.before in
-    let pre = page.before.before.before.before.before.before.before.before.before.before.before.before.requires in
-    let kept = c.before.before.keep.ensures in
+    let kept = c.keep.ensures in
     rw kept.0
-    (kept_turns pre page.page.ensures lines.answer.ensures c.before.before.before.before.if2.false _ kept.1)
+    (kept_turns c.requires c.page-listed.ensures c.answer-answered.ensures c.if-answered.false _ kept.1)
 
 pub turn_spec : {M : Type 1} → statement M
 turn_spec =

@@ -11,14 +11,18 @@ serve-requires c κs = (
   clear _ (record { tops = omega arith; ends = omega arith; blocks = omega arith; adjustments = omega arith }),
 )
 
-same_length : tie.Need-same-length
+same_length : tie.Need-shape_of-input_log
 same_length c = search rules
 
-same-length-2 : tie.Need-same-length-2
+same-length-2 : tie.Need-shape_of-text_log
 same-length-2 c = search rules
 
 returns : tie.Need-returns
 returns c = search rules
 
 pub run_spec : {M : Type 1} → statement M
-run_spec = tie.close (tie.spec serve-requires same_length same-length-2 returns)
+run_spec = tie.close (tie.spec
+    serve-requires
+    same_length
+    same-length-2
+    returns)

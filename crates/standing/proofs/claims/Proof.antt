@@ -7,4 +7,5 @@ returns : tie.Need-returns
 returns c = output_whole
 
 pub claims_spec : {M : Type 1} → statement M
-claims_spec = tie.close (tie.spec returns)
+claims_spec = tie.close (tie.spec
+    returns)

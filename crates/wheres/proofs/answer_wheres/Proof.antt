@@ -7,50 +7,50 @@ use borrow.Author.Rules.{rules}
 use Rattle.wheres.proofs.answer_wheres.Statement.{statement}
 use Rattle.wheres.proofs.answer_wheres.Tie as tie
 
-returns : tie.Need-returns
-returns c = let pre = c.before.before.requires in went_none _ _ _ _ _ pre.1 pre.0.2 pre.0.1
+returns : tie.Need-returns-then-block-from
+returns c = let pre = c.requires in went_none _ _ _ _ _ pre.1 pre.0.2 pre.0.1
 
-shared-slice-read-if2 : tie.Need-shared-slice-read-if2
+shared-slice-read-if2 : tie.Need-bounds-block-from
 shared-slice-read-if2 c = search rules
 
-returns-2 : tie.Need-returns-2
-returns-2 c = let pre = c.before.before.before.before.requires in went_none _ _ _ _ _ pre.1 pre.0.2 pre.0.1
+returns-2 : tie.Need-returns-then-block-from-ne119
+returns-2 c = let pre = c.requires in went_none _ _ _ _ _ pre.1 pre.0.2 pre.0.1
 
-is-empty-requires : tie.Need-is-empty-requires
+is-empty-requires : tie.Need-is_empty-requires
 is-empty-requires c κs = search rules
 
-returns-3 : tie.Need-returns-3
-returns-3 c = let pre = c.before.before.before.before.before.before.before.requires in went_none _ _ _ _ _ pre.1 pre.0.2 pre.0.1
+returns-3 : tie.Need-returns-then-is_empty
+returns-3 c = let pre = c.requires in went_none _ _ _ _ _ pre.1 pre.0.2 pre.0.1
 
-answer-places-requires : tie.Need-answer-places-requires
+answer-places-requires : tie.Need-answer_places-requires
 answer-places-requires c κs =
     let map = c.before.before.before in
-    let some = sym map.before.is-empty.ensures ∙ map.if3.false in
-    let pre = map.before.before.before.before.before.before.before.requires in
-    (map_formed _ _ _ _ _ pre.1 some (second_held _ _ _ c.before.if4.true), pre.0.1, pre.0.2)
+    let some = sym map.is_empty.ensures ∙ map.if-is_empty.false in
+    let pre = map.requires in
+    (map_formed _ _ _ _ _ pre.1 some (second_held _ _ _ c.if-state.true), pre.0.1, pre.0.2)
 
-returns-4 : tie.Need-returns-4
+returns-4 : tie.Need-returns-then-state
 returns-4 c =
     let map = c.before.before.before.before in
-    let some = sym map.before.is-empty.ensures ∙ map.if3.false in
-    let pre = map.before.before.before.before.before.before.before.requires in
-    c.answer-places.ensures.went _ _ _ refl
-    (map_shows _ _ _ _ _ pre.1 some (second_held _ _ _ c.before.before.if4.true) pre.0.0)
+    let some = sym map.is_empty.ensures ∙ map.if-is_empty.false in
+    let pre = map.requires in
+    c.answer_places.ensures.went _ _ _ refl
+    (map_shows _ _ _ _ _ pre.1 some (second_held _ _ _ c.if-state.true) pre.0.0)
 
-answer-places-requires-2 : tie.Need-answer-places-requires-2
+answer-places-requires-2 : tie.Need-answer_places-requires-2
 answer-places-requires-2 c κs =
     let map = c.before.before.before in
-    let some = sym map.before.is-empty.ensures ∙ map.if3.false in
-    let pre = map.before.before.before.before.before.before.before.requires in
-    (map_formed _ _ _ _ _ pre.1 some (first_held _ _ _ c.before.if4.false), pre.0.1, pre.0.2)
+    let some = sym map.is_empty.ensures ∙ map.if-is_empty.false in
+    let pre = map.requires in
+    (map_formed _ _ _ _ _ pre.1 some (first_held _ _ _ c.if-state.false), pre.0.1, pre.0.2)
 
-returns-5 : tie.Need-returns-5
+returns-5 : tie.Need-returns
 returns-5 c =
     let map = c.before.before.before.before in
-    let some = sym map.before.is-empty.ensures ∙ map.if3.false in
-    let pre = map.before.before.before.before.before.before.before.requires in
-    c.answer-places2.ensures.went _ _ _ refl
-    (map_shows _ _ _ _ _ pre.1 some (first_held _ _ _ c.before.before.if4.false) pre.0.0)
+    let some = sym map.is_empty.ensures ∙ map.if-is_empty.false in
+    let pre = map.requires in
+    c.answer_places-2.ensures.went _ _ _ refl
+    (map_shows _ _ _ _ _ pre.1 some (first_held _ _ _ c.if-state.false) pre.0.0)
 
 pub answer_wheres_spec : {M : Type 1} → statement M
 answer_wheres_spec =
