@@ -4,7 +4,7 @@ ghost use Rattle.std.specs.Prelude.{◌<◌, ◌≤◌};
 use crate::directory::{BIN, Directory, LABEL, POSITION, SIZE, get};
 use crate::state::{State, same};
 use crate::total::{NONE, entry, least, minus, plus, quotient, remainder};
-use crate::{directory, file, list, sheet};
+use crate::{directory, file, list, rack_sheet};
 use model::table::Header;
 
 // A map whole, lists of its buckets, its file, its sheet, and the first bucket and the first bin that there are not.
@@ -17,7 +17,7 @@ pub fn map(h: Header, tops: &[u32; 65], rest: &[[u32; 2081]; 3], d: &Directory, 
     let s = bins(h, tops, ends, blocks, adjustments, d, s.bins, s);
     let s = list::lists(h, tops, ends, blocks, adjustments, d, s);
     let s = file::files(h, tops, ends, blocks, adjustments, d, s);
-    let s = sheet::sheets(h, tops, ends, blocks, adjustments, d, s);
+    let s = rack_sheet::sheets(h, tops, ends, blocks, adjustments, d, s);
     let s = place(h, tops, ends, blocks, adjustments, s.buckets, 6, 0, 0, s);
     find(h, tops, ends, blocks, adjustments, s.bins, LABEL, 7, 0, s)
 }

@@ -9,7 +9,7 @@ mod file;
 mod history;
 mod list;
 mod print;
-mod sheet;
+mod rack_sheet;
 mod state;
 mod total;
 

@@ -1,5 +1,5 @@
 use Rattle.std.proofs.Common.{◌-◌}
-use Rattle.figures.proofs.fresh.sizes.Given as goal
+use Rattle.histories.proofs.rack_sheet.field.Given as goal
 
 abbrev pub decreases-loop-i : goal.decreases-loop-i
-decreases-loop-i g l = 10 - l.i
+decreases-loop-i l = 10 - l.i
