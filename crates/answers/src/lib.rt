@@ -32,7 +32,7 @@ pub fn answer(
     requires listing_value { (m.listing ≡ false) × (m.from ≤ length block.now) × (put ≤ length out.old) }
     requires sane_now { SaneNow m tops.old ends.old blocks.old adjustments.old second_tops.old second_ends.old second_blocks.old second_adjustments.old }
     ensures { Answers m (rack_of m.state tops.old ends.old blocks.old adjustments.old second_tops.old second_ends.old second_blocks.old second_adjustments.old) block.now put out.old result
-            (rack_of result.machine.state tops.new ends.new blocks.new adjustments.new second_tops.new second_ends.new second_blocks.new second_adjustments.new) out.new }
+        (rack_of result.machine.state tops.new ends.new blocks.new adjustments.new second_tops.new second_ends.new second_blocks.new second_adjustments.new) out.new }
 {
     let mut at = put;
     while at <= LAST {

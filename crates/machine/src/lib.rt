@@ -27,7 +27,7 @@ pub fn turn(
 ) -> After
     requires { ReadyNow m block.old tops.old ends.old blocks.old adjustments.old second_tops.old second_ends.old second_blocks.old second_adjustments.old }
     ensures { Turns m (rack_of m.state tops.old ends.old blocks.old adjustments.old second_tops.old second_ends.old second_blocks.old second_adjustments.old) block.old result
-            (rack_of result.machine.state tops.new ends.new blocks.new adjustments.new second_tops.new second_ends.new second_blocks.new second_adjustments.new) block.new out.new }
+        (rack_of result.machine.state tops.new ends.new blocks.new adjustments.new second_tops.new second_ends.new second_blocks.new second_adjustments.new) block.new out.new }
 {
     let listed = page(
         m,

@@ -33,7 +33,7 @@ pub fn page(
 ) -> After
     requires { SaneNow m tops.now ends.now blocks.now adjustments.now second_tops.now second_ends.now second_blocks.now second_adjustments.now }
     ensures { Pages m (rack_of m.state tops.now ends.now blocks.now adjustments.now second_tops.now second_ends.now second_blocks.now second_adjustments.now) out.old result
-            (rack_of result.machine.state tops.now ends.now blocks.now adjustments.now second_tops.now second_ends.now second_blocks.now second_adjustments.now) out.new }
+        (rack_of result.machine.state tops.now ends.now blocks.now adjustments.now second_tops.now second_ends.now second_blocks.now second_adjustments.now) out.new }
 {
     let state = m.state;
     if m.listing {

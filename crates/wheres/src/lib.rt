@@ -70,7 +70,7 @@ pub fn answer_wheres(
     requires listing_value { (m.listing ≡ false) × (m.from ≤ length block.now) × (put ≤ length out.old) }
     requires sane_now { SaneNow m tops.now ends.now blocks.now adjustments.now second_tops.now second_ends.now second_blocks.now second_adjustments.now }
     ensures { Went m (rack_of m.state tops.now ends.now blocks.now adjustments.now second_tops.now second_ends.now second_blocks.now second_adjustments.now) block.now put out.old (on_to m result.from)
-            (rack_of m.state tops.now ends.now blocks.now adjustments.now second_tops.now second_ends.now second_blocks.now second_adjustments.now) result.put out.new }
+        (rack_of m.state tops.now ends.now blocks.now adjustments.now second_tops.now second_ends.now second_blocks.now second_adjustments.now) result.put out.new }
 {
     let from = m.from;
     if block.len() <= from {
