@@ -7,6 +7,7 @@ use Rattle.model.specs.Sound.{Formed}
 use Rattle.model.specs.Expansion.{due_after, expanded, differs}
 use Rattle.model.specs.Calls.{growth_tests, rows_of}
 use Rattle.model.specs.declared.table.Header.{Header}
+use Rattle.row_places.specs.declared.Row.{Row}
 use Rattle.row_places.specs.declared.RowPlaces.{RowPlaces}
 
 -- an accepted growth of a formed table, and the order number q of one of its rows
@@ -28,6 +29,15 @@ pub record RowBucket (h : Header) (a : Arrays) (s : Shape) (q i x : ℕ) : Type 
   pub end : x < get_or a.ends i 0
   pub moves : differs (table h a) (expanded (table h a) s) x ≡ true
   pub order : count (differs (table h a) (expanded (table h a) s)) x ≡ q
+
+-- a row: its bucket, and its two places
+abbrev pub whole_row : List ℕ → Row
+whole_row row =
+    record {
+      bucket = get_or row 0 0;
+      old = record { bin = get_or row 1 0; position = get_or row 2 0 };
+      new = record { bin = get_or row 3 0; position = get_or row 4 0 };
+    }
 
 -- the two places of a row
 abbrev pub places_of : List ℕ → RowPlaces
