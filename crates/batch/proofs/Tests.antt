@@ -6,7 +6,7 @@ use mathlib.Core.List.{List, [], ◌∷◌}
 use native.Mathlib.Omega.{arith}
 use lib.ListN.{length, get_or}
 use borrow.Author.Tests.{le-leb, lt-leb}
-use Rattle.model.specs.Basics.{if◌then◌else◌, all, joined}
+use Rattle.model.specs.Basics.{if◌then◌otherwise◌, all, joined}
 use Rattle.model.specs.Table.{Table, over}
 use Rattle.model.specs.Place.{places}
 use Rattle.model.specs.Refusal.{first, falls, some_past}
@@ -18,7 +18,7 @@ module _ (t : Table) (xs : List ℕ) where
   -- an empty list is accepted, and writes nothing
   pub none_asked
       : (out : List ℕ) → length xs ≡ 0 → (0 ≡ first (places_tests t xs)) × (out ≡ answer 0 (over (places t xs) out) out)
-  unfolding places_tests first falls some_past all if◌then◌else◌ answer over places joined
+  unfolding places_tests first falls some_past all if◌then◌otherwise◌ answer over places joined
   none_asked out e = none xs e
     where
       none : (ys : List ℕ) → length ys ≡ 0 → (0 ≡ first (places_tests t ys)) × (out ≡ answer 0 (over (places t ys) out) out)

@@ -8,7 +8,7 @@ use native.Mathlib.Numerals.{add-one}
 use native.Mathlib.Omega.{arith}
 use lib.ListN.{length, get_or, set, take, drop, length-take, length-drop, length-set, drop_of_length-le}
 use lib.Seq.{take_all, take-add, take-suc-set, length-take-le, drop-append-le, get_or-take, get_or-drop, get_or-append-add}
-use Rattle.model.specs.Basics.{if◌then◌else◌}
+use Rattle.model.specs.Basics.{if◌then◌otherwise◌}
 use Rattle.model.specs.Table.{over}
 use Rattle.model.proofs.Entries.{Put, put_none, put_more, put_over}
 use Rattle.lines.specs.Words.{up_to}
@@ -24,7 +24,7 @@ use Rattle.buffers.specs.declared.Machine.{Machine}
 pub begins
     : (r : Machine) → r.from ≡ 0 → r.size ≡ 0 → r.row ≡ 0 → r.listing ≡ false → r.state.stage ≡ Empty → r.state.flipped ≡ false
     → Begins r
-unfolding stands session session_at held if◌then◌else◌ is_empty is_grown up_to
+unfolding stands session session_at held if◌then◌otherwise◌ is_empty is_grown up_to
 begins r f z q l e g =
     record {
       stands = λ one two block. rw (f, z, q, l, g, e);

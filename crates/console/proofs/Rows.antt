@@ -10,7 +10,7 @@ use native.Mathlib.Omega.{arith}
 use lib.ListN.{length, get_or, take, drop, length-append}
 use lib.Seq.{get_or-drop, drop-drop, sets}
 use borrow.Author.Tests.{le-ltb}
-use Rattle.model.specs.Basics.{if◌then◌else◌, from, joined}
+use Rattle.model.specs.Basics.{if◌then◌otherwise◌, from, joined}
 use Rattle.model.specs.Table.{Shape, Table, over}
 use Rattle.model.specs.Refusal.{first}
 use Rattle.model.specs.Expansion.{expanded}
@@ -157,7 +157,7 @@ module _ (t : Table) (s : Shape) (q : ℕ) (buffer after : List ℕ) (z : Reloca
     here = page q (length buffer) (growth_rows t s₀)
 
     unrefused : moves_refusal t s q ≡ 0
-    unfolding order_tests first if◌then◌else◌
+    unfolding order_tests first if◌then◌otherwise◌
     unrefused =
         rw asked (first_after (growth_tests t s₀) _ (growth_numbered t s₀) g.0 ∙ rw (le-ltb (length (growth_rows t s₀)) q g.1))
 

@@ -7,7 +7,7 @@ use mathlib.Core.Logic.{⊎_elim}
 use native.Mathlib.Omega.{arith}
 use lib.ListN.{length}
 use lib.Seq.{sets}
-use Rattle.model.specs.Basics.{if◌then◌else◌, joined}
+use Rattle.model.specs.Basics.{if◌then◌otherwise◌, joined}
 use Rattle.model.specs.Table.{Arrays, table}
 use Rattle.model.specs.Sound.{Formed}
 use Rattle.model.specs.Console.{text, read, moves_of, move_text, command_answer, answer_text}
@@ -54,7 +54,7 @@ served
     : (k : Rack) (l : List ℕ) (c : Command) (d : Step) (this other one two : Arrays) (r : Reply) (x : ℕ) (old new : List ℕ)
     → c ≡ read l → Stepped (held k) c d this other
     → held (rack d.state one two)
-    ≡ (if d.flip then maps d.state other this else maps d.state this other)
+    ≡ (if d.flip then maps d.state other this otherwise maps d.state this other)
     → r ≡ replied d (x + length (shown d.answer)) → new ≡ sets old x (shown d.answer)
     → Served k l x old r (rack r.state one two) new
 unfolding answer_to
@@ -70,11 +70,11 @@ served k l c d this other one two r x old new q s h e b =
 module _ (st : State) (one two : Arrays) where
   -- the map is in the second table, or in the first
   pub second_held : st.flipped ≡ true → held (rack st one two) ≡ maps st two one
-  unfolding held if◌then◌else◌
+  unfolding held if◌then◌otherwise◌
   second_held e = rw e
 
   pub first_held : st.flipped ≡ false → held (rack st one two) ≡ maps st one two
-  unfolding held if◌then◌else◌
+  unfolding held if◌then◌otherwise◌
   first_held e = rw e
 
   pub second_right : st.flipped ≡ true → Right (held (rack st one two)) → Right (maps st two one)
@@ -84,13 +84,13 @@ module _ (st : State) (one two : Arrays) where
   first_right e r = subst Right (first_held e) r
 
   -- and after a step from where it was
-  second_after : (b : Bool) → st.flipped ≡ (if b then false else true) → held (rack st one two) ≡ (if b then maps st one two else maps st two one)
-  unfolding if◌then◌else◌
+  second_after : (b : Bool) → st.flipped ≡ (if b then false otherwise true) → held (rack st one two) ≡ (if b then maps st one two otherwise maps st two one)
+  unfolding if◌then◌otherwise◌
   second_after true e = first_held e
   second_after false e = second_held e
 
-  first_after : (b : Bool) → st.flipped ≡ (if b then true else false) → held (rack st one two) ≡ (if b then maps st two one else maps st one two)
-  unfolding if◌then◌else◌
+  first_after : (b : Bool) → st.flipped ≡ (if b then true otherwise false) → held (rack st one two) ≡ (if b then maps st two one otherwise maps st one two)
+  unfolding if◌then◌otherwise◌
   first_after true e = second_held e
   first_after false e = first_held e
 
@@ -105,7 +105,7 @@ module _
         served (rack st one two) l c d two' one' one' two' r x old new q
         (subst (λ m. Stepped m c d two' one') (sym (second_held st one two g)) s)
         (second_after d.state one' two' d.flip
-        (step_flipped (maps st two one) c d two' one' s ∙ ap (λ f. if d.flip then not f else f) g))
+        (step_flipped (maps st two one) c d two' one' s ∙ ap (λ f. if d.flip then not f otherwise f) g))
         e b
 
     pub first_served
@@ -115,12 +115,12 @@ module _
         served (rack st one two) l c d one' two' one' two' r x old new q
         (subst (λ m. Stepped m c d one' two') (sym (first_held st one two g)) s)
         (first_after d.state one' two' d.flip
-        (step_flipped (maps st one two) c d one' two' s ∙ ap (λ f. if d.flip then not f else f) g))
+        (step_flipped (maps st one two) c d one' two' s ∙ ap (λ f. if d.flip then not f otherwise f) g))
         e b
 
 -- no rows but for a map that has grown
 held_state : (k : Rack) → (held k).state ≡ k.state
-unfolding held if◌then◌else◌
+unfolding held if◌then◌otherwise◌
 held_state k = ⊎_elim (λ t. rw t.0) (λ t. rw t.0) (bit_cases k.state.flipped)
 
 pub none_held

@@ -1,7 +1,7 @@
 -- Document 01, 'The program rackmap': what one line prints at once, and what the two tables hold after it. Assumes nothing.
 use Rattle.std.specs.Prelude.{ℕ, ◌+◌, ◌≡◌, List, length}
 use Rattle.std.proofs.lemmas.List.Edits.{sets}
-use Rattle.model.specs.Basics.{if◌then◌else◌}
+use Rattle.model.specs.Basics.{if◌then◌otherwise◌}
 use Rattle.model.specs.Table.{Table, Arrays, arrays}
 use Rattle.model.specs.Search.{place_at}
 use Rattle.model.specs.Calls.{answer}
@@ -22,7 +22,7 @@ abbrev pub rack : State → Arrays → Arrays → Rack
 rack st one two = record { state = st; one = one; two = two }
 
 unfoldable pub held : Rack → Maps
-held k = if k.state.flipped then maps k.state k.two k.one else maps k.state k.one k.two
+held k = if k.state.flipped then maps k.state k.two k.one otherwise maps k.state k.one k.two
 
 -- a state and the eight lists of two tables
 abbrev pub rack_of

@@ -6,7 +6,7 @@ use mathlib.Core.List.{[], ◌∷◌}
 use native.Mathlib.Omega.{arith}
 use lib.ListN.{length}
 use borrow.Author.Tests.{ltb-false}
-use Rattle.model.specs.Basics.{if◌then◌else◌}
+use Rattle.model.specs.Basics.{if◌then◌otherwise◌}
 use Rattle.model.specs.Limits.{max_intervals}
 use Rattle.model.specs.Table.{Shape, Table, shape, Arrays, header, written}
 use Rattle.model.specs.Refusal.{first, intervals_full}
@@ -49,7 +49,7 @@ module _ (t : Table) (s : Shape) (out : Arrays) (r : ℕ) (e : r ≡ first (grow
 
   -- refused by 8
   pub grow_full : r ≡ 0 → intervals_full t s ≡ true → GrowReply t s out out (refusal 8)
-  unfolding table_reply arrays_after first answer if◌then◌else◌
+  unfolding table_reply arrays_after first answer if◌then◌otherwise◌
   grow_full z w =
       let eight : grow_refusal t s ≡ 8 = next z ∙ rw w in
       record { reply = rw (next z, w); least = λ q. absurd (omega arith); lent = rw (next z, w) }
@@ -61,7 +61,7 @@ module _ (t : Table) (s : Shape) (out : Arrays) (r : ℕ) (e : r ≡ first (grow
       → z.header.interval_count ≡ length (expanded t s).intervals
       → z.moved ≡ moved t (expanded t s) → z.moved ≡ least (shape t) s
       → left ≡ written (expanded t s) out → GrowReply t s out left z
-  unfolding table_reply arrays_after first answer if◌then◌else◌ header expanded
+  unfolding table_reply arrays_after first answer if◌then◌otherwise◌ header expanded
   grow_accepted left z ok w accepted buckets capacity blocks intervals count formula stored =
       record {
         reply =

@@ -4,7 +4,7 @@ use mathlib.Core.Path.{◌≡◌, sym, ◌∙◌}
 use mathlib.Core.List.{List}
 use lib.ListN.{length}
 use borrow.Author.Tests.{lt-ltb, le-ltb}
-use Rattle.model.specs.Basics.{if◌then◌else◌, joined}
+use Rattle.model.specs.Basics.{if◌then◌otherwise◌, joined}
 use Rattle.model.specs.Table.{Shape, Table, over}
 use Rattle.model.specs.Refusal.{first}
 use Rattle.model.specs.Expansion.{expanded}
@@ -36,7 +36,7 @@ module _ (t : Table) (s : Shape) (q : ℕ) (buffer : List ℕ) (r : ℕ) (e : r 
   pub moves_past
       : r ≡ 0 → length (rows t (expanded t s)) < q
       → MovesReply t s q buffer buffer (record { refusal = 9; written = 0; total = 0 })
-  unfolding relocations_answer buffer_after order_tests first answer if◌then◌else◌
+  unfolding relocations_answer buffer_after order_tests first answer if◌then◌otherwise◌
   moves_past z l =
       let w = lt-ltb (length (rows t (expanded t s))) q l in
       record { reply = rw (next z, w); lent = rw (next z, w) }
@@ -47,7 +47,7 @@ module _ (t : Table) (s : Shape) (q : ℕ) (buffer : List ℕ) (r : ℕ) (e : r 
       → written ≡ length (page q (length buffer) (rows t (expanded t s))) → total ≡ length (rows t (expanded t s))
       → left ≡ over (joined (page q (length buffer) (rows t (expanded t s)))) buffer
       → MovesReply t s q buffer left (record { refusal = 0; written = written; total = total })
-  unfolding relocations_answer buffer_after order_tests first answer if◌then◌else◌
+  unfolding relocations_answer buffer_after order_tests first answer if◌then◌otherwise◌
   moves_accepted written total left z l a b c =
       let w = le-ltb (length (rows t (expanded t s))) q l in
       record { reply = rw (next z, w, a, b); lent = rw (next z, w, c) }

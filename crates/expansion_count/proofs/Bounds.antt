@@ -9,7 +9,7 @@ use native.Mathlib.Omega.{arith}
 use lib.Dec.{ltb, eqb}
 use lib.ListN.{length, length-append}
 use borrow.Author.Tests.{eq-eqb, ne_eqb, le-ltb}
-use Rattle.model.specs.Basics.{if◌then◌else◌, bit, sum}
+use Rattle.model.specs.Basics.{if◌then◌otherwise◌, bit, sum}
 use Rattle.model.specs.Limits.{max_intervals}
 use Rattle.model.specs.Table.{Shape, Interval, interval, Table, Arrays, table}
 use Rattle.model.specs.Place.{block_of, size}
@@ -55,7 +55,7 @@ lengthened_count m (i ∷ (j ∷ is)) = ap suc (lengthened_count m (j ∷ is))
 
 -- so the new buckets of a growth that drains make one at most
 extended_few : (g b m w : ℕ) (is : List Interval) → length (extended g b m w is) ≤ length is + 1
-unfolding extended if◌then◌else◌
+unfolding extended if◌then◌otherwise◌
 extended_few g b m w is =
     ⊎_elim
     (λ l. rw (eq-eqb (last_block is) g l) (omega (arith, lengthened_count m is)))

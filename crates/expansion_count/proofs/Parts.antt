@@ -7,7 +7,7 @@ use native.Mathlib.Omega.{arith}
 use lib.Dec.{ltb}
 use lib.ListN.{length, get_or, length-append}
 use borrow.Author.Tests.{eq-eqb, ne_eqb, lt-ltb, le-ltb}
-use Rattle.model.specs.Basics.{if◌then◌else◌}
+use Rattle.model.specs.Basics.{if◌then◌otherwise◌}
 use Rattle.model.specs.Table.{Shape, Interval, interval, Table, Arrays, table}
 use Rattle.model.specs.Sound.{Formed}
 use Rattle.model.specs.Expansion.{last_block, lengthened, parts, extended, plan_for, drained}
@@ -28,33 +28,33 @@ pub record Front (whole is behind : List Interval) : Type 0 where
 -- by the action: of an interval of an old block
 module _ (p : Plan) (i : Interval) (g m : ℕ) where
   pub made_stay : p.action ≡ Stay → i.block < g → m ≡ 0 → made p i g m ≡ i ∷ []
-  unfolding made parts extended last_block if◌then◌else◌
+  unfolding made parts extended last_block if◌then◌otherwise◌
   made_stay e l z = rw (e, ne_eqb i.block g (λ q. omega arith), eq-eqb m 0 z)
 
   pub made_fresh
       : p.action ≡ Stay → i.block < g → (m ≡ 0 → ⊥)
       → made p i g m ≡ i ∷ interval (i.end + m) g (i.end - p.moved) ∷ []
-  unfolding made parts extended last_block if◌then◌else◌
+  unfolding made parts extended last_block if◌then◌otherwise◌
   made_fresh e l z = rw (e, ne_eqb i.block g (λ q. omega arith), ne_eqb m 0 z)
 
   pub made_move : (c : ℕ) → p.action ≡ Move c → made p i g m ≡ interval (i.end + m) g c ∷ []
-  unfolding made parts extended last_block lengthened if◌then◌else◌
+  unfolding made parts extended last_block lengthened if◌then◌otherwise◌
   made_move c e = rw (e, eq-eqb g g refl)
 
   pub made_split
       : (b c : ℕ) → p.action ≡ Split b c
       → made p i g m ≡ interval b i.block i.adjustment ∷ interval (i.end + m) g c ∷ []
-  unfolding made parts extended last_block lengthened if◌then◌else◌
+  unfolding made parts extended last_block lengthened if◌then◌otherwise◌
   made_split b c e = rw (e, eq-eqb g g refl)
 
 -- the new buckets behind interval i
 module _ (h : Header) (b i : ℕ) where
   pub behind_none : i + 1 < h.interval_count → left_behind h b i ≡ 0
-  unfolding left_behind if◌then◌else◌
+  unfolding left_behind if◌then◌otherwise◌
   behind_none l = rw (lt-ltb (i + 1) h.interval_count l)
 
   pub behind_all : h.interval_count ≤ i + 1 → left_behind h b i ≡ b - h.buckets
-  unfolding left_behind if◌then◌else◌
+  unfolding left_behind if◌then◌otherwise◌
   behind_all l = rw (le-ltb (i + 1) h.interval_count l)
 
 module _ (h : Header) (a : Arrays) (s : Shape) where
@@ -63,14 +63,14 @@ module _ (h : Header) (a : Arrays) (s : Shape) where
 
   -- what the walk still makes from interval i on; past the last one nothing
   unfoldable pub to_make : ℕ → ℕ → ℕ → List Interval
-  to_make i start w = if ltb i h.interval_count then walked t s start (ahead h a i) w else []
+  to_make i start w = if ltb i h.interval_count then walked t s start (ahead h a i) w otherwise []
 
   pub make_none : (i start w : ℕ) → h.interval_count ≤ i → to_make i start w ≡ []
-  unfolding to_make if◌then◌else◌
+  unfolding to_make if◌then◌otherwise◌
   make_none i start w l = rw (le-ltb i h.interval_count l)
 
   make_some : (i start w : ℕ) → i < h.interval_count → to_make i start w ≡ walked t s start (ahead h a i) w
-  unfolding to_make if◌then◌else◌
+  unfolding to_make if◌then◌otherwise◌
   make_some i start w l = rw (lt-ltb i h.interval_count l)
 
   module _ (formed : Formed h a) where

@@ -7,7 +7,7 @@ use mathlib.Core.List.{List, ◌∷◌}
 use native.Mathlib.Omega.{arith}
 use lib.ListN.{length, get_or}
 use borrow.Author.Tests.{eq-eqb, ne_eqb}
-use Rattle.model.specs.Basics.{if◌then◌else◌}
+use Rattle.model.specs.Basics.{if◌then◌otherwise◌}
 use Rattle.model.specs.Limits.{max_blocks}
 use Rattle.model.specs.Table.{Shape, interval, Table, Arrays, arrays, table, sizes}
 use Rattle.model.specs.Expansion.{grown_tops, has, due_after, gain, pieces}
@@ -28,11 +28,11 @@ some_gained n z = ⊎_elim (λ l. omega arith) (λ l. absurd (z (omega arith))) 
 module _ (t : Table) (s : Shape) (j : ℕ) where
   -- the last interval's block has no piece, and the others have what they gain
   pub piece_own : j ≡ last_of t → piece_of t s j ≡ 0
-  unfolding piece_of if◌then◌else◌
+  unfolding piece_of if◌then◌otherwise◌
   piece_own e = rw (eq-eqb j (last_of t) e)
 
   pub piece_other : (j ≡ last_of t → ⊥) → piece_of t s j ≡ gain t s j
-  unfolding piece_of if◌then◌else◌
+  unfolding piece_of if◌then◌otherwise◌
   piece_other e = rw (ne_eqb j (last_of t) e)
 
   module _ (c g : ℕ) (l : j < g) where

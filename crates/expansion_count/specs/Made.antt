@@ -1,6 +1,6 @@
 -- What a growth makes of an old interval, and what it answers. Assumes nothing.
 use Rattle.std.specs.Prelude.{ℕ, ◌+◌, ◌-◌, ◌≡◌, List, [], ltb, eqb, length}
-use Rattle.model.specs.Basics.{if◌then◌else◌}
+use Rattle.model.specs.Basics.{if◌then◌otherwise◌}
 use Rattle.model.specs.Table.{Shape, Interval, Table, shape}
 use Rattle.model.specs.Expansion.{last_block, gain, parts, extended, drained, moved_after, expanded, moved as moved_of}
 use Rattle.model.specs.Balance.{least as least_of}
@@ -15,11 +15,11 @@ made p i g m = extended g i.end m p.moved (parts p.action i g [])
 
 -- the new buckets behind interval i: all of them behind the last one
 unfoldable pub left_behind : Header → ℕ → ℕ → ℕ
-left_behind h buckets i = if ltb (i + 1) h.interval_count then 0 else buckets - h.buckets
+left_behind h buckets i = if ltb (i + 1) h.interval_count then 0 otherwise buckets - h.buckets
 
 -- what block j gains in an interval of its own: the last interval's block gains in that one
 unfoldable pub piece_of : Table → Shape → ℕ → ℕ
-piece_of t s j = if eqb j (last_block t.intervals) then 0 else gain t s j
+piece_of t s j = if eqb j (last_block t.intervals) then 0 otherwise gain t s j
 
 -- the answer of a growth by which some old block is due less
 pub record CountedDrained (t : Table) (s : Shape) (r : Growth) : Type 0 where

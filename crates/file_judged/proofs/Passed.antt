@@ -7,7 +7,7 @@ use native.Mathlib.Omega.{arith}
 use lib.Dec.{eqb}
 use lib.ListN.{length, take}
 use lib.Seq.{take-length}
-use Rattle.model.specs.Basics.{if◌then◌else◌, ◌and◌, all, before, count, sum, from}
+use Rattle.model.specs.Basics.{if◌then◌otherwise◌, ◌and◌, all, before, count, sum, from}
 use Rattle.model.specs.Table.{Arrays, arrays, table, over, written}
 use Rattle.model.specs.Place.{others}
 use Rattle.model.specs.Refusal.{first, tops_wrong, ends_wrong, blocks_wrong, adjustment_of, adjustments_wrong, capacity_wrong}
@@ -209,7 +209,7 @@ first_adjustment h a = refl
 pub alone_completed
     : (b p : ℕ) (a : Arrays) (tops ends blocks : List ℕ) (x r : ℕ) → arrays tops ends blocks [] ≡ a → x ≡ 0
     → r ≡ first (rule_tests (alone b p) (arrays tops ends blocks (x ∷ []))) → Completed (alone b p) a (x ∷ []) r (x ∷ [])
-unfolding rule_tests array_tests layout_tests first if◌then◌else◌ adjustments_wrong all ◌and◌ from over
+unfolding rule_tests array_tests layout_tests first if◌then◌otherwise◌ adjustments_wrong all ◌and◌ from over
 alone_completed b p a tops ends blocks x r same z e =
     let own = arrays tops ends blocks (x ∷ []) in
     let right : adjustments_wrong (alone b p) own ≡ false = λ i. not (eqb (z i) (first_adjustment (alone b p) own i)) in

@@ -5,7 +5,7 @@ use mathlib.Core.Bool.{true, false}
 use mathlib.Core.List.{List, [], ◌++◌}
 use lib.ListN.{length}
 use borrow.Author.Tests.{lt-ltb, le-ltb}
-use Rattle.model.specs.Basics.{if◌then◌else◌}
+use Rattle.model.specs.Basics.{if◌then◌otherwise◌}
 use Rattle.model.specs.Table.{Shape, Table, Arrays, arrays, table, over}
 use Rattle.model.specs.Refusal.{first, room_short, result_short}
 use Rattle.model.specs.Place.{places}
@@ -86,7 +86,7 @@ module _ (s : Shape) (p : ℕ) (out : Arrays) where
   pub initial_short
       : room_short out ≡ true
       → (record { refusal = 21; moved = 0; header = no_header } ≡ initial_reply s p out) × (out ≡ initial_arrays s p out)
-  unfolding initial_reply initial_arrays initial_refusal table_reply arrays_after answer if◌then◌else◌ first
+  unfolding initial_reply initial_arrays initial_refusal table_reply arrays_after answer if◌then◌otherwise◌ first
   initial_short w = (rw w, rw w)
 
   -- with room, the tests after that answer

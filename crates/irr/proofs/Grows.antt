@@ -3,7 +3,7 @@ use Prim.Native.Nat.{ℕ}
 use mathlib.Core.Path.{◌≡◌, sym, ◌∙◌, ap}
 use mathlib.Core.Bool.{true, false}
 use mathlib.Core.List.{[], ◌∷◌, ◌++◌, append_assoc}
-use Rattle.model.specs.Basics.{if◌then◌else◌}
+use Rattle.model.specs.Basics.{if◌then◌otherwise◌}
 use Rattle.model.specs.Table.{Shape, Arrays, table}
 use Rattle.model.specs.Refusal.{first, room_short, intervals_full}
 use Rattle.model.specs.Expansion.{expanded, moved}
@@ -31,7 +31,7 @@ module _ (h : Header) (a : Arrays) (s : Shape) (out : Arrays) where
   -- refused by the room lent
   pub expand_short
       : room_short out ≡ true → (refusal 21 ≡ expand_reply h a s out) × (out ≡ expand_arrays h a s out)
-  unfolding expand_reply expand_arrays expand_refusal table_reply arrays_after answer if◌then◌else◌ first
+  unfolding expand_reply expand_arrays expand_refusal table_reply arrays_after answer if◌then◌otherwise◌ first
   expand_short w = (rw w, rw w)
 
   module _ (long : room_short out ≡ false) (r : ℕ) (e : r ≡ first (table_tests h a)) where

@@ -9,7 +9,7 @@ use lib.Dec.{eqb, leb}
 use lib.ListN.{length, take, drop, get_or, take-append-drop}
 use lib.Seq.{drop-drop}
 use borrow.Author.Tests.{le-leb, eqb-true, ne_eqb}
-use Rattle.model.specs.Basics.{if◌then◌else◌, ◌and◌}
+use Rattle.model.specs.Basics.{if◌then◌otherwise◌, ◌and◌}
 use Rattle.model.specs.Decimal.{digits_only, value}
 use Rattle.model.specs.Console.{text, in_front, words_of, same, is_number, command, read}
 use Rattle.model.specs.declared.command.Command.{Command}
@@ -47,14 +47,14 @@ digits_to {l} {from} {end} {v} s within feed some few fits =
 
 -- digits are one word
 words_digits : (w : List ℕ) → digits_only w ≡ true → words_of w ≡ w ∷ []
-unfolding words_of in_front if◌then◌else◌ digits_only
+unfolding words_of in_front if◌then◌otherwise◌ digits_only
 words_digits [] h = refl
 words_digits (c ∷ w) h =
     let one = first_digit c w h in
     rw (ne_eqb c 32 (λ e. omega (arith, one)), words_digits w (and_right _ _ h))
 
 where_reads : (w : List ℕ) → is_number w ≡ true → read (119 ∷ 104 ∷ 101 ∷ 114 ∷ 101 ∷ 32 ∷ w) ≡ Where (value w)
-unfolding read words_of in_front command same text ◌and◌ if◌then◌else◌
+unfolding read words_of in_front command same text ◌and◌ if◌then◌otherwise◌
 where_reads w h =
     let n = number_is w h in
     rw (le-leb (length (119 ∷ 104 ∷ 101 ∷ 114 ∷ 101 ∷ 32 ∷ w)) 64 (omega (arith, n.few)), words_digits w n.digits, h)
@@ -80,7 +80,7 @@ blanks_front c l [] h = absurd (omega (arith, ap length h))
 blanks_front c l (w ∷ ws) h = let rest : l ≡ w ++ blanks ws = cc in rw rest
 
 blanks_words : (l : List ℕ) → 32 ∷ l ≡ blanks (words_of l)
-unfolding blanks words_of if◌then◌else◌
+unfolding blanks words_of if◌then◌otherwise◌
 blanks_words [] = refl
 blanks_words (c ∷ l) =
     ⊎_elim
@@ -102,14 +102,14 @@ is_where (At a b) = false
 is_where Moves = false
 is_where Unreadable = false
 
-neither : (t : Bool) (x y : Command) → is_where x ≡ false → is_where y ≡ false → is_where (if t then x else y) ≡ false
-unfolding if◌then◌else◌
+neither : (t : Bool) (x y : Command) → is_where x ≡ false → is_where y ≡ false → is_where (if t then x otherwise y) ≡ false
+unfolding if◌then◌otherwise◌
 neither true x y p q = p
 neither false x y p q = q
 
 -- of a command that is `where` only if a test holds
-tested : (t : Bool) (x : Command) → is_where (if t then x else Unreadable) ≡ true → (t ≡ true) × (is_where x ≡ true)
-unfolding if◌then◌else◌ is_where
+tested : (t : Bool) (x : Command) → is_where (if t then x otherwise Unreadable) ≡ true → (t ≡ true) × (is_where x ≡ true)
+unfolding if◌then◌otherwise◌ is_where
 tested true x h = (refl, h)
 tested false x h = absurd (false≢true h)
 
@@ -149,7 +149,7 @@ module _ (l : List ℕ) (i : ℕ) (e : same (bytes_at l i 6) (text "where ") ≡
       ∙ ap (λ (r : List ℕ). text "where " ++ r) (drop-drop 6 i l)
 
   line : up_to 10 (drop i l) ≡ 119 ∷ 104 ∷ 101 ∷ 114 ∷ 101 ∷ 32 ∷ up_to 10 (drop (i + 6) l)
-  unfolding up_to if◌then◌else◌
+  unfolding up_to if◌then◌otherwise◌
   line = ap (up_to 10) line_where
 
   -- a number behind the word and its blank

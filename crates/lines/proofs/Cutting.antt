@@ -8,7 +8,7 @@ use lib.ListN.{length, take, drop}
 use lib.Seq.{take_all, take-append-le, length-take-le, take-take}
 use lib.Dec.{eqb}
 use borrow.Author.Tests.{lt-leb}
-use Rattle.model.specs.Basics.{if◌then◌else◌}
+use Rattle.model.specs.Basics.{if◌then◌otherwise◌}
 use Rattle.model.specs.Console.{in_front, lines_of, read}
 use Rattle.model.proofs.Counts.{bit_cases, below_or}
 use Rattle.lines.specs.Words.{up_to, up_to_feed}
@@ -17,7 +17,7 @@ use Rattle.lines.specs.Words.{up_to, up_to_feed}
 pub lines_cut
     : (l more : List ℕ) → length (up_to_feed l) < length l
     → lines_of (l ++ more) ≡ up_to_feed l ∷ lines_of (drop (suc (length (up_to_feed l))) l ++ more)
-unfolding lines_of in_front up_to if◌then◌else◌
+unfolding lines_of in_front up_to if◌then◌otherwise◌
 lines_cut [] more = λ h. absurd (omega arith)
 lines_cut (c ∷ l) more =
     ⊎_elim
@@ -29,7 +29,7 @@ lines_cut (c ∷ l) more =
 
 -- its front is one too
 pub front_unfinished : (n : ℕ) (p : List ℕ) → up_to_feed p ≡ p → up_to_feed (take n p) ≡ take n p
-unfolding up_to if◌then◌else◌
+unfolding up_to if◌then◌otherwise◌
 front_unfinished zero p = λ e. refl
 front_unfinished (suc n) [] = λ e. refl
 front_unfinished (suc n) (c ∷ p) =
@@ -54,7 +54,7 @@ ahead_none c [] = refl
 ahead_none c (d ∷ p) = rw (ahead_none d p)
 
 lines_ahead : (p more : List ℕ) → up_to_feed p ≡ p → lines_of (p ++ more) ≡ ahead p (lines_of more)
-unfolding ahead lines_of up_to if◌then◌else◌
+unfolding ahead lines_of up_to if◌then◌otherwise◌
 lines_ahead [] more = λ e. refl
 lines_ahead (c ∷ p) more =
     ⊎_elim
@@ -76,7 +76,7 @@ module _ (c : ℕ) (p : List ℕ) (e : up_to_feed (c ∷ p) ≡ c ∷ p) where
 module _ (n : ℕ) (many : 64 < n) where
   -- they say what it says
   pub enough : (l : List ℕ) → read (take n l) ≡ read l
-  unfolding read if◌then◌else◌
+  unfolding read if◌then◌otherwise◌
   enough l =
       ⊎_elim
       (λ s. ap read (take_all n l (omega arith)))

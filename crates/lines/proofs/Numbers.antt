@@ -8,7 +8,7 @@ use native.Mathlib.Nat.{add-zero}
 use native.Mathlib.Omega.{arith}
 use lib.ListN.{length, drop, get_or}
 use borrow.Author.Tests.{leb-true, le-leb}
-use Rattle.model.specs.Basics.{if◌then◌else◌, ◌and◌}
+use Rattle.model.specs.Basics.{if◌then◌otherwise◌, ◌and◌}
 use Rattle.model.specs.Decimal.{digits_only, value_from, value}
 use Rattle.model.specs.Console.{is_number}
 use Rattle.model.proofs.Counts.{bit_cases, and_left, and_right, and_both}
@@ -154,7 +154,7 @@ digits_run {e} {l} {from} (suc n) end v s h k d f =
 
 -- no number
 not_number : (l : List ℕ) (from : ℕ) → (is_number (word_at l from) ≡ true → ⊥) → number_at l from ≡ Other
-unfolding number_at if◌then◌else◌
+unfolding number_at if◌then◌otherwise◌
 not_number l from h = ⊎_elim (λ t. absurd (h t.0)) (λ t. rw t.0) (bit_cases (is_number (word_at l from)))
 
 module _ {l : List ℕ} {from end v : ℕ} (s : Digits 32 l from end v) where
@@ -174,5 +174,5 @@ module _ {l : List ℕ} {from end v : ℕ} (s : Digits 32 l from end v) where
     digits_many h = not_number l from (λ t. omega (arith, (number_is _ t).few, digits_ended s e))
 
     pub digits_end : (end ≡ from → ⊥) → end - from ≤ 10 → v ≤ 4_294_967_295 → Number v end ≡ number_at l from
-    unfolding number_at if◌then◌else◌
+    unfolding number_at if◌then◌otherwise◌
     digits_end h f k = rw (digits_number s e h f k, digits_value s e, ← digits_ended s e)

@@ -7,7 +7,7 @@ use mathlib.Core.List.{List, [], ◌∷◌}
 use native.Mathlib.Omega.{arith}
 use lib.ListN.{length, take, drop, length-drop}
 use borrow.Author.Tests.{le-leb, lt-leb}
-use Rattle.model.specs.Basics.{if◌then◌else◌, ◌and◌}
+use Rattle.model.specs.Basics.{if◌then◌otherwise◌, ◌and◌}
 use Rattle.model.specs.Decimal.{value}
 use Rattle.model.specs.Console.{text, words_of, same, is_number, command, read}
 use Rattle.model.specs.declared.command.Command.TheVariants.{Where, Moves, Unreadable}
@@ -20,7 +20,7 @@ use Rattle.lines.proofs.Words.{behind, words_split, words_last, words_more}
 -- THE ANSWERS OF `number`
 
 not_read : (l : List ℕ) (i : ℕ) → number_at l i ≡ Other → is_number (word_at l i) ≡ false
-unfolding number_at if◌then◌else◌
+unfolding number_at if◌then◌otherwise◌
 not_read l i =
     ⊎_elim
     (λ t. rw t.0 (λ h. let z : ◌≡◌ {A = ℕ} 0 1 = cc in absurd (omega arith)))
@@ -35,7 +35,7 @@ pub record NumberAt (l : List ℕ) (i v end : ℕ) : Type 0 where
   pub within : end ≤ length l
 
 was_read : (l : List ℕ) (i v end : ℕ) → i ≤ length l → number_at l i ≡ Number v end → NumberAt l i v end
-unfolding number_at if◌then◌else◌
+unfolding number_at if◌then◌otherwise◌
 was_read l i v end w =
     ⊎_elim
     (λ t.
@@ -92,24 +92,24 @@ third {l} {end} {a} {next} s n b last h =
 
 -- a line of more than 64 bytes
 pub read_long : (l : List ℕ) → 64 < length l → Unreadable ≡ read l
-unfolding read if◌then◌else◌
+unfolding read if◌then◌otherwise◌
 read_long l h = rw (lt-leb (length l) 64 h)
 
 -- words whose second is no number, or whose third is none
 second_wrong : (w x : List ℕ) (ws : List (List ℕ)) → is_number x ≡ false → command (w ∷ x ∷ ws) ≡ Unreadable
-unfolding command if◌then◌else◌ ◌and◌
+unfolding command if◌then◌otherwise◌ ◌and◌
 second_wrong w x [] h = rw h (⊎_elim (λ t. rw t.0) (λ t. rw t.0) (bit_cases (same w (text "where"))))
 second_wrong w x (y ∷ []) h = rw h
 second_wrong w x (y ∷ z ∷ ws) h = refl
 
 third_wrong : (w x y : List ℕ) (ws : List (List ℕ)) → is_number y ≡ false → command (w ∷ x ∷ y ∷ ws) ≡ Unreadable
-unfolding command if◌then◌else◌ ◌and◌
+unfolding command if◌then◌otherwise◌ ◌and◌
 third_wrong w x y [] h = rw h (⊎_elim (λ t. rw t.0) (λ t. rw t.0) (bit_cases (is_number x)))
 third_wrong w x y (z ∷ ws) h = refl
 
 module _ {l : List ℕ} {end : ℕ} (f : First l end) where
   read_words : read l ≡ command (words_of l)
-  unfolding read if◌then◌else◌
+  unfolding read if◌then◌otherwise◌
   read_words = rw (le-leb (length l) 64 f.short)
 
   first_word : word_at l 0 ≡ take end l
@@ -123,11 +123,11 @@ module _ {l : List ℕ} {end : ℕ} (f : First l end) where
         ∙ ap (λ (w : List ℕ). w ∷ []) first_word
 
     pub read_moves : same (take end l) (text "moves") ≡ true → Moves ≡ read l
-    unfolding command if◌then◌else◌
+    unfolding command if◌then◌otherwise◌
     read_moves h = sym (read_words ∙ ap command one ∙ rw h)
 
     pub read_alone : same (take end l) (text "moves") ≡ false → Unreadable ≡ read l
-    unfolding command if◌then◌else◌
+    unfolding command if◌then◌otherwise◌
     read_alone h = sym (read_words ∙ ap command one ∙ rw h)
 
   -- and more
@@ -155,11 +155,11 @@ module _ {l : List ℕ} {end a second : ℕ} (s : Second l end a second) where
         (words_last l (end + 1) second (omega (arith, s.more)) s.number.ends e)
 
     pub read_where : same (take end l) (text "where") ≡ true → Where a ≡ read l
-    unfolding command if◌then◌else◌ ◌and◌
+    unfolding command if◌then◌otherwise◌ ◌and◌
     read_where h = sym (two ∙ rw (h, s.number.is, ← s.number.reads))
 
     pub read_one : same (take end l) (text "where") ≡ false → Unreadable ≡ read l
-    unfolding command if◌then◌else◌ ◌and◌
+    unfolding command if◌then◌otherwise◌ ◌and◌
     read_one h = sym (two ∙ rw h)
 
   -- and more
@@ -179,7 +179,7 @@ module _ {l : List ℕ} {end a second : ℕ} (s : Second l end a second) where
 module _ {l : List ℕ} {end a second b third : ℕ} (s : Third l end a second b third) where
   -- three words
   pub read_two : length l ≤ third → with_two (take end l) a b ≡ read l
-  unfolding command if◌then◌else◌ ◌and◌ with_two
+  unfolding command if◌then◌otherwise◌ ◌and◌ with_two
   read_two h =
       sym
       (further s.seconds s.more

@@ -7,7 +7,7 @@ use native.Mathlib.Omega.{arith}
 use lib.ListN.{length, drop, length-drop}
 use lib.Seq.{drop-drop}
 use lib.Dec.{eqb}
-use Rattle.model.specs.Basics.{if◌then◌else◌}
+use Rattle.model.specs.Basics.{if◌then◌otherwise◌}
 use Rattle.model.specs.Console.{in_front, words_of}
 use Rattle.model.proofs.Counts.{bit_cases}
 use Rattle.lines.specs.Words.{up_to, word_at}
@@ -15,16 +15,16 @@ use Rattle.lines.specs.Words.{up_to, word_at}
 -- the words behind the first
 unfoldable pub behind : List ℕ → List (List ℕ)
 behind [] = []
-behind (c ∷ l) = if eqb c 32 then words_of l else behind l
+behind (c ∷ l) = if eqb c 32 then words_of l otherwise behind l
 
 pub words_split : (l : List ℕ) → words_of l ≡ up_to 32 l ∷ behind l
-unfolding words_of up_to behind in_front if◌then◌else◌
+unfolding words_of up_to behind in_front if◌then◌otherwise◌
 words_split [] = refl
 words_split (c ∷ l) = ⊎_elim (λ t. rw t.0) (λ t. rw (t.0, words_split l)) (bit_cases (eqb c 32))
 
 -- none where the first word is the whole line, and otherwise the words behind a blank
 behind_none : (l : List ℕ) → length (up_to 32 l) ≡ length l → behind l ≡ []
-unfolding up_to behind if◌then◌else◌
+unfolding up_to behind if◌then◌otherwise◌
 behind_none [] = λ h. refl
 behind_none (c ∷ l) =
     ⊎_elim
@@ -34,7 +34,7 @@ behind_none (c ∷ l) =
 
 behind_some
     : (l : List ℕ) → length (up_to 32 l) < length l → behind l ≡ words_of (drop (suc (length (up_to 32 l))) l)
-unfolding up_to behind if◌then◌else◌
+unfolding up_to behind if◌then◌otherwise◌
 behind_some [] = λ h. absurd (omega arith)
 behind_some (c ∷ l) =
     ⊎_elim

@@ -1,6 +1,6 @@
 -- Where lines and words end, and the parts of a line as the functions of this crate read them. Assumes nothing.
 use Rattle.std.specs.Prelude.{ℕ, ◌+◌, ◌<◌, ◌≤◌, ◌≡◌, Bool, true, List, [], ◌∷◌, length, take, drop, eqb, leb}
-use Rattle.model.specs.Basics.{if◌then◌else◌, ◌and◌}
+use Rattle.model.specs.Basics.{if◌then◌otherwise◌, ◌and◌}
 use Rattle.model.specs.Decimal.{value}
 use Rattle.model.specs.Console.{text, same, is_number, read}
 use Rattle.model.specs.declared.command.Command.{Command}
@@ -13,7 +13,7 @@ use Rattle.lines.specs.declared.Parsed.TheVariants.{Number, Other}
 -- the bytes before the first e; all where there is none
 unfoldable pub up_to : ℕ → List ℕ → List ℕ
 up_to e [] = []
-up_to e (c ∷ rest) = if eqb c e then [] else c ∷ up_to e rest
+up_to e (c ∷ rest) = if eqb c e then [] otherwise c ∷ up_to e rest
 
 -- the bytes before the first line feed
 abbrev pub up_to_feed : List ℕ → List ℕ
@@ -25,15 +25,15 @@ word_at l i = up_to 32 (drop i l)
 
 -- the number at place i and where it ends
 unfoldable pub number_at : List ℕ → ℕ → Parsed
-number_at l i = if is_number (word_at l i) then Number (value (word_at l i)) (i + length (word_at l i)) else Other
+number_at l i = if is_number (word_at l i) then Number (value (word_at l i)) (i + length (word_at l i)) otherwise Other
 
 -- what the word w says before two numbers
 unfoldable pub with_two : List ℕ → ℕ → ℕ → Command
 with_two w a b =
     if same w (text "fresh") then Fresh a b
-    else if same w (text "grow") then Grow a b
-    else if same w (text "at") then At a b
-    else Unreadable
+    otherwise if same w (text "grow") then Grow a b
+    otherwise if same w (text "at") then At a b
+    otherwise Unreadable
 
 -- A LINE READ WHERE IT STANDS
 

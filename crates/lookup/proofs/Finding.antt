@@ -11,7 +11,7 @@ use lib.ListN.{length, get_or, take, drop}
 use lib.Seq.{drop-cons, length-take-le, get_or-take}
 use lib.ListN.{drop_of_length-le}
 use borrow.Author.Tests.{lt-ltb, le-ltb, le-leb, lt-leb}
-use Rattle.model.specs.Basics.{if◌then◌else◌, from, before}
+use Rattle.model.specs.Basics.{if◌then◌otherwise◌, from, before}
 use Rattle.model.specs.Limits.{label}
 use Rattle.model.specs.Table.{Shape, Table, first_bin, Arrays, bins, shape, table}
 use Rattle.model.specs.Search.{block_of_bin, includes, holder, rank_at, found_of, held_at, found_at}
@@ -39,12 +39,12 @@ unfolding block_of_bin
 block_past xs i y l = rw (drop_of_length-le xs l)
 
 block_here : (xs : List ℕ) (i y : ℕ) → i < length xs → y < get_or xs i 0 → block_of_bin (drop i xs) y ≡ 0
-unfolding block_of_bin if◌then◌else◌
+unfolding block_of_bin if◌then◌otherwise◌
 block_here xs i y l k = rw (drop-cons xs i 0 l, lt-ltb y (get_or xs i 0) k)
 
 block_next
     : (xs : List ℕ) (i y : ℕ) → i < length xs → get_or xs i 0 ≤ y → block_of_bin (drop i xs) y ≡ suc (block_of_bin (drop (i + 1) xs) y)
-unfolding block_of_bin if◌then◌else◌
+unfolding block_of_bin if◌then◌otherwise◌
 block_next xs i y l k = rw (drop-cons xs i 0 l, le-ltb y (get_or xs i 0) k, add-one i)
 
 -- the blocks before i all end at or before bin y
@@ -102,7 +102,7 @@ module _ (a : Arrays) (count j r : ℕ) where
       : (i start : ℕ) → Searching i start → i < count → get_or a.blocks i 0 ≡ j
       → start ≤ r + get_or a.adjustments i 0 → r + get_or a.adjustments i 0 < get_or a.ends i 0
       → In i ≡ holder (from (entry a) 0 count) 0 0 j r
-  unfolding holder from if◌then◌else◌
+  unfolding holder from if◌then◌otherwise◌
   searching_found i start s l b c d =
       let more : count - i ≡ suc (count - suc i) = omega arith in
       let test : includes start (entry a i) j r ≡ true =
@@ -113,7 +113,7 @@ module _ (a : Arrays) (count j r : ℕ) where
       : (i start : ℕ) → Searching i start → i < count
       → (get_or a.blocks i 0 ≡ j → start ≤ r + get_or a.adjustments i 0 → get_or a.ends i 0 ≤ r + get_or a.adjustments i 0)
       → Searching (i + 1) (get_or a.ends i 0)
-  unfolding holder from if◌then◌else◌
+  unfolding holder from if◌then◌otherwise◌
   searching_more i start s l none =
       let more : count - i ≡ suc (count - (i + 1)) = omega arith in
       let test : includes start (entry a i) j r ≡ false =
@@ -142,7 +142,7 @@ bins_some h a s n e =
 pub size_past
     : (h : Header) (a : Arrays) (n y : ℕ) → n ≡ bins (table h a) → n ≤ y
     → record { refusal = 7; buckets = 0 } ≡ bin_size_answer (first (bin_size_tests (table h a) y)) (table h a) y
-unfolding bin_size_answer answer first bin_size_tests bin_past if◌then◌else◌
+unfolding bin_size_answer answer first bin_size_tests bin_past if◌then◌otherwise◌
 size_past h a n y e l = rw (le-leb (bins (table h a)) y (omega arith))
 
 abbrev sized : ℕ → ℕ → Shape
@@ -152,7 +152,7 @@ module _ (h : Header) (a : Arrays) (s : Formed h a) (n y : ℕ) (e : n ≡ bins 
   size_answer
       : (v : ℕ) → v ≡ due (shape (table h a)) y
       → record { refusal = 0; buckets = v } ≡ bin_size_answer (first (bin_size_tests (table h a) y)) (table h a) y
-  unfolding bin_size_answer answer first bin_size_tests bin_past if◌then◌else◌
+  unfolding bin_size_answer answer first bin_size_tests bin_past if◌then◌otherwise◌
   size_answer v d = rw (lt-leb (bins (table h a)) y (omega arith), d, ← size_due_lem h a s y (omega arith))
 
   shape_table : shape (table h a) ≡ sized h.buckets n
@@ -217,7 +217,7 @@ module _
       -- what the search for the rank answers is what finding answers
       pub answer_here
           : found_of (table h a) rank (holder (table h a).intervals 0 0 block rank) ≡ found_at (table h a) y (p + label)
-      unfolding found_at held_at labelled table if◌then◌else◌
+      unfolding found_at held_at labelled table if◌then◌otherwise◌
       answer_here = rw (← g, ← e, le-ltb (p + label) label (omega arith))
 
       pub find_nothing
@@ -238,12 +238,12 @@ module _
 pub bin_refused
     : (t : Table) (n y p : ℕ) → n ≡ bins t → n ≤ y
     → record { refusal = 7; bucket = 0 } ≡ find_answer (first (find_tests t y p)) t y p
-unfolding find_answer answer first find_tests bin_past if◌then◌else◌
+unfolding find_answer answer first find_tests bin_past if◌then◌otherwise◌
 bin_refused t n y p e l = rw (le-leb (bins t) y (omega arith))
 
 -- a position of the label
 pub label_refused : (t : Table) (y p : ℕ) → p < label → record { refusal = 7; bucket = 0 } ≡ found_at t y p
-unfolding found_at held_at labelled found_of if◌then◌else◌
+unfolding found_at held_at labelled found_of if◌then◌otherwise◌
 label_refused t y p l = rw (lt-ltb p label l)
 
 -- otherwise the search answers

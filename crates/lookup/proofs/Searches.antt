@@ -7,7 +7,7 @@ use native.Mathlib.Omega.{arith}
 use lib.ListN.{get_or}
 use lib.Seq.{get_or-take}
 use borrow.Author.Tests.{lt-ltb, le-ltb, le-leb, lt-leb}
-use Rattle.model.specs.Basics.{if◌then◌else◌, from, before}
+use Rattle.model.specs.Basics.{if◌then◌otherwise◌, from, before}
 use Rattle.model.specs.Table.{Interval, interval, Table, first_bin, block_bins, Arrays, table}
 use Rattle.model.specs.Place.{bin_of, position_of}
 use Rattle.model.specs.Search.{interval_at, index_of, located, place_of, place_at}
@@ -25,7 +25,7 @@ use Rattle.model.proofs.Tables.{get_d_from}
 index_from
     : (f : ℕ → Interval) (n i m x : ℕ) → m < n → ((l : ℕ) → l < m → (f (i + l)).end ≤ x) → x < (f (i + m)).end
     → index_of (from f i n) x ≡ m
-unfolding index_of from if◌then◌else◌
+unfolding index_of from if◌then◌otherwise◌
 index_from f zero i m x l before after = absurd (omega arith)
 index_from f (suc n) i zero x l before after =
     let here : i + 0 ≡ i = omega arith in
@@ -51,7 +51,7 @@ module _ (h : Header) (a : Arrays) (s : Formed h a) where
   pub located_at
       : (i x : ℕ) → i < h.interval_count → before a.ends i ≤ x → x < get_or a.ends i 0 → x < h.buckets
       → located (table h a) x ≡ At i (x - get_or a.adjustments i 0)
-  unfolding located bucket_past if◌then◌else◌ table before
+  unfolding located bucket_past if◌then◌otherwise◌ table before
   located_at i x l b e inside =
       rw (lt-leb h.buckets x inside)
       (ap₂ At
@@ -76,7 +76,7 @@ formed_locatable h a s =
     }
 
 pub located_outside : (h : Header) (a : Arrays) (x : ℕ) → h.buckets ≤ x → located (table h a) x ≡ Outside
-unfolding located bucket_past if◌then◌else◌ table
+unfolding located bucket_past if◌then◌otherwise◌ table
 located_outside h a x l = rw (le-leb h.buckets x l)
 
 -- WHAT THE ANSWER OF THE SEARCH SAYS

@@ -6,7 +6,7 @@ use mathlib.Core.List.{[], ◌∷◌}
 use native.Mathlib.Omega.{arith}
 use lib.ListN.{length}
 use borrow.Author.Tests.{lt-ltb, le-ltb, eq-eqb, ne_eqb}
-use Rattle.model.specs.Basics.{if◌then◌else◌, ◌and◌, ◌or◌}
+use Rattle.model.specs.Basics.{if◌then◌otherwise◌, ◌and◌, ◌or◌}
 use Rattle.model.specs.Limits.{max_blocks}
 use Rattle.model.specs.Table.{Shape, Table, bins}
 use Rattle.model.specs.Refusal.{first, shrinks, unchanged, blocks_full, overfills}
@@ -33,17 +33,17 @@ module _ (t : Table) (s : Shape) where
     asked_rest = first_after (size_tests s) _ (omega arith) sized
 
     pub asked_fewer : s.buckets < t.buckets → first (growth_tests t s) ≡ 3
-    unfolding first if◌then◌else◌ shrinks ◌or◌
+    unfolding first if◌then◌otherwise◌ shrinks ◌or◌
     asked_fewer b = asked_rest ∙ rw (lt-ltb s.buckets t.buckets b)
 
     module _ (kept : t.buckets ≤ s.buckets) where
       pub asked_narrower : s.bins < bins t → first (growth_tests t s) ≡ 3
-      unfolding first if◌then◌else◌ shrinks ◌or◌
+      unfolding first if◌then◌otherwise◌ shrinks ◌or◌
       asked_narrower n = asked_rest ∙ rw (le-ltb s.buckets t.buckets kept, lt-ltb s.bins (bins t) n)
 
       -- more bins: a block more
       pub asked_full : bins t < s.bins → length t.tops ≡ max_blocks → first (growth_tests t s) ≡ 5
-      unfolding first if◌then◌else◌ shrinks ◌or◌ unchanged blocks_full ◌and◌
+      unfolding first if◌then◌otherwise◌ shrinks ◌or◌ unchanged blocks_full ◌and◌
       asked_full n g =
           asked_rest
           ∙ rw (
@@ -55,7 +55,7 @@ module _ (t : Table) (s : Shape) where
           )
 
       pub asked_wider : bins t < s.bins → (length t.tops ≡ max_blocks → ⊥) → first (growth_tests t s) ≡ first ((31, overfills t.capacity s) ∷ [])
-      unfolding first if◌then◌else◌ shrinks ◌or◌ unchanged blocks_full ◌and◌
+      unfolding first if◌then◌otherwise◌ shrinks ◌or◌ unchanged blocks_full ◌and◌
       asked_wider n g =
           asked_rest
           ∙ rw (
@@ -68,7 +68,7 @@ module _ (t : Table) (s : Shape) where
 
       -- as many bins: more buckets, or nothing changes
       pub asked_same : s.bins ≡ bins t → s.buckets ≡ t.buckets → first (growth_tests t s) ≡ 4
-      unfolding first if◌then◌else◌ shrinks ◌or◌ unchanged ◌and◌
+      unfolding first if◌then◌otherwise◌ shrinks ◌or◌ unchanged ◌and◌
       asked_same n b =
           asked_rest
           ∙ rw (
@@ -79,7 +79,7 @@ module _ (t : Table) (s : Shape) where
           )
 
       pub asked_more : s.bins ≡ bins t → (s.buckets ≡ t.buckets → ⊥) → first (growth_tests t s) ≡ first ((31, overfills t.capacity s) ∷ [])
-      unfolding first if◌then◌else◌ shrinks ◌or◌ unchanged blocks_full ◌and◌
+      unfolding first if◌then◌otherwise◌ shrinks ◌or◌ unchanged blocks_full ◌and◌
       asked_more n b =
           asked_rest
           ∙ rw (

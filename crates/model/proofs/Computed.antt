@@ -1,6 +1,6 @@
 -- The claims that the checker computes: document 01's starred figures, its listing, mistyped lines, and the sheet of its example. Assumes nothing.
 use mathlib.Core.Path.{refl}
-use Rattle.model.specs.Basics.{if◌then◌else◌, ◌and◌, ◌or◌, bit, sum, count, all, from, joined, before}
+use Rattle.model.specs.Basics.{if◌then◌otherwise◌, ◌and◌, ◌or◌, bit, sum, count, all, from, joined, before}
 use Rattle.model.specs.Table.{bins, shape, first_bin, block_bins, table, header, over, written}
 use Rattle.model.specs.Place.{interval_of, block_of, rank, bin, position, held, others, size, bin_size}
 use Rattle.model.specs.Search.{interval_at, index_of, located, place_of, place_at, block_of_bin, rank_at, includes, holder, found_of, held_at, found_at}
@@ -30,7 +30,7 @@ use Rattle.model.specs.SheetClaims.{example, SheetExample, SheetEdges}
 use Rattle.model.specs.ConsoleClaims.{Mistyped}
 
 pub figures : Figures
-unfolding if◌then◌else◌ ◌and◌ ◌or◌ bit sum count all from joined before bins shape first_bin block_bins table header
+unfolding if◌then◌otherwise◌ ◌and◌ ◌or◌ bit sum count all from joined before bins shape first_bin block_bins table header
     over written interval_of index_of block_of rank bin position held others size bin_size interval_at located place_of place_at
     block_of_bin rank_at includes holder found_of held_at found_at due due_of_bins due_of_block first searched outside rises
     header_outside arrays_short tops_wrong ends_wrong blocks_wrong holdings_wrong adjustment_of adjustments_wrong size_outside
@@ -48,7 +48,7 @@ figures = refl
 
 -- the outputs: of the listing, and of mistyped lines
 pub listing : Listing × Mistyped
-unfolding if◌then◌else◌ ◌and◌ ◌or◌ bit sum count all from joined before bins shape first_bin block_bins table header
+unfolding if◌then◌otherwise◌ ◌and◌ ◌or◌ bit sum count all from joined before bins shape first_bin block_bins table header
     over written interval_of index_of block_of rank bin position held others size bin_size interval_at located place_of place_at
     block_of_bin rank_at includes holder found_of held_at found_at due due_of_bins due_of_block first searched outside rises
     header_outside arrays_short tops_wrong ends_wrong blocks_wrong holdings_wrong adjustment_of adjustments_wrong size_outside
@@ -65,7 +65,7 @@ unfolding if◌then◌else◌ ◌and◌ ◌or◌ bit sum count all from joined b
 listing = (refl, refl)
 
 pub sheet_example_lem : SheetExample
-unfolding if◌then◌else◌ ◌and◌ ◌or◌ bit sum count all from joined before bins shape first_bin block_bins table header
+unfolding if◌then◌otherwise◌ ◌and◌ ◌or◌ bit sum count all from joined before bins shape first_bin block_bins table header
     over written interval_of index_of block_of rank bin position held others size bin_size interval_at located place_of place_at
     block_of_bin rank_at includes holder found_of held_at found_at due due_of_bins due_of_block first searched outside rises
     header_outside arrays_short tops_wrong ends_wrong blocks_wrong holdings_wrong adjustment_of adjustments_wrong size_outside
@@ -83,7 +83,7 @@ unfolding if◌then◌else◌ ◌and◌ ◌or◌ bit sum count all from joined b
 sheet_example_lem = refl
 
 pub sheet_edges_lem : SheetEdges
-unfolding if◌then◌else◌ ◌and◌ ◌or◌ bit sum count all from joined before bins shape first_bin block_bins table header
+unfolding if◌then◌otherwise◌ ◌and◌ ◌or◌ bit sum count all from joined before bins shape first_bin block_bins table header
     over written interval_of index_of block_of rank bin position held others size bin_size interval_at located place_of place_at
     block_of_bin rank_at includes holder found_of held_at found_at due due_of_bins due_of_block first searched outside rises
     header_outside arrays_short tops_wrong ends_wrong blocks_wrong holdings_wrong adjustment_of adjustments_wrong size_outside

@@ -9,18 +9,18 @@ use native.Mathlib.Omega.{arith}
 use lib.ListN.{length, get_or, length-append}
 use lib.Dec.{leb}
 use borrow.Author.Tests.{lt-ltb, le-ltb, le-leb, leb-true}
-use Rattle.model.specs.Basics.{if◌then◌else◌, ◌and◌}
+use Rattle.model.specs.Basics.{if◌then◌otherwise◌, ◌and◌}
 use Rattle.model.specs.Decimal.{digits_only, value_from, value, digits, decimal}
 use Rattle.model.proofs.Counts.{below_or, and_left, and_right}
 
 -- one digit
 digits_one : (k n : ℕ) → n < 10 → digits (suc k) n ≡ (48 + n) ∷ []
-unfolding digits if◌then◌else◌
+unfolding digits if◌then◌otherwise◌
 digits_one k n l = rw (lt-ltb n 10 l, mod-eq_of_lt l)
 
 -- more than one: the last follows those of a tenth
 digits_more : (k n : ℕ) → 10 ≤ n → digits (suc k) n ≡ digits k (n / 10) ++ (48 + n % 10) ∷ []
-unfolding digits if◌then◌else◌
+unfolding digits if◌then◌otherwise◌
 digits_more k n l = rw (le-ltb n 10 l)
 
 -- at most k digits

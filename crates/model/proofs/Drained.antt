@@ -9,7 +9,7 @@ use native.Mathlib.Omega.{arith}
 use lib.Dec.{ltb}
 use lib.ListN.{length}
 use borrow.Author.Tests.{eq-eqb, ne_eqb, lt-ltb, le-ltb, le-leb, lt-leb}
-use Rattle.model.specs.Basics.{if◌then◌else◌, ◌and◌, sum}
+use Rattle.model.specs.Basics.{if◌then◌otherwise◌, ◌and◌, sum}
 use Rattle.model.specs.Table.{Shape, Interval, interval, Table, shape}
 use Rattle.model.specs.Place.{block_of, size}
 use Rattle.model.specs.Expansion.{
@@ -56,19 +56,19 @@ use Rattle.model.proofs.Growths.{Accepted, length_more, new_dues, old_most, some
 unfoldable pub drained_block : Table → Shape → ℕ → ℕ
 drained_block t s x =
     if ltb x t.buckets and ltb (size (block_of t) x (block_of t x)) (due_after t s (block_of t x)) then block_of t x
-    else length t.tops
+    otherwise length t.tops
 
 module _ (t : Table) (s : Shape) where
   -- a bucket of a rank below its block's due stays, one of another rank moves, and a new one is of the new block
   pub drained_stays
       : (x : ℕ) → x < t.buckets → size (block_of t) x (block_of t x) < due_after t s (block_of t x)
       → drained_block t s x ≡ block_of t x
-  unfolding drained_block if◌then◌else◌ ◌and◌
+  unfolding drained_block if◌then◌otherwise◌ ◌and◌
   drained_stays x l k = rw (lt-ltb x t.buckets l, lt-ltb _ _ k)
 
   pub drained_moves
       : (x : ℕ) → due_after t s (block_of t x) ≤ size (block_of t) x (block_of t x) → drained_block t s x ≡ length t.tops
-  unfolding drained_block if◌then◌else◌ ◌and◌
+  unfolding drained_block if◌then◌otherwise◌ ◌and◌
   drained_moves x k =
       ⊎_elim
       (λ l. rw (lt-ltb x t.buckets l, le-ltb _ _ k))
@@ -76,7 +76,7 @@ module _ (t : Table) (s : Shape) where
       (below_or x t.buckets)
 
   pub drained_new : (x : ℕ) → t.buckets ≤ x → drained_block t s x ≡ length t.tops
-  unfolding drained_block if◌then◌else◌ ◌and◌
+  unfolding drained_block if◌then◌otherwise◌ ◌and◌
   drained_new x l = rw (le-ltb x t.buckets l)
 
   -- of an old block, what it has stays up to its due
@@ -108,13 +108,13 @@ module _ (t : Table) (s : Shape) where
 module _ (due start : ℕ) (i : Interval) (w : ℕ) where
   -- it stays if all its ranks are below the due, moves if none is, and splits at the due otherwise
   pub plan_stay : i.end - i.adjustment ≤ due → plan due start i w ≡ record { action = Stay; moved = w }
-  unfolding plan if◌then◌else◌
+  unfolding plan if◌then◌otherwise◌
   plan_stay l = rw (le-leb (i.end - i.adjustment) due l)
 
   pub plan_move
       : due < i.end - i.adjustment → due ≤ start - i.adjustment
       → plan due start i w ≡ record { action = Move (start - w); moved = w + (i.end - start) }
-  unfolding plan if◌then◌else◌
+  unfolding plan if◌then◌otherwise◌
   plan_move l k = rw (lt-leb (i.end - i.adjustment) due l, le-leb due (start - i.adjustment) k)
 
   pub plan_split
@@ -124,7 +124,7 @@ module _ (due start : ℕ) (i : Interval) (w : ℕ) where
         action = Split (due + i.adjustment) (due + i.adjustment - w);
         moved = w + (i.end - (due + i.adjustment));
       }
-  unfolding plan if◌then◌else◌
+  unfolding plan if◌then◌otherwise◌
   plan_split l k = rw (lt-leb (i.end - i.adjustment) due l, lt-leb due (start - i.adjustment) k)
 
 -- THE PARTS OF AN OLD INTERVAL
@@ -229,7 +229,7 @@ parted_tell t s start (i ∷ is) w h q =
 pub tells_extended
     : (b : ℕ → ℕ) (g k m w : ℕ) (is : List Interval) (e : ℕ) → 1 ≤ e → Tells b g 0 is e → k < g
     → ((x : ℕ) → e ≤ x → b x ≡ k) → w ≡ size b e k → Tells b g 0 (extended k e m w is) (e + m)
-unfolding extended if◌then◌else◌
+unfolding extended if◌then◌otherwise◌
 tells_extended b g k m w is e some h below own q =
     ⊎_elim
     (λ l.

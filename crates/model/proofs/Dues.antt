@@ -9,7 +9,7 @@ use native.Mathlib.Omega.{arith}
 use lib.Dec.{ltb}
 use lib.ListN.{length, get_or}
 use borrow.Author.Tests.{lt-ltb, le-ltb, ltb-true}
-use Rattle.model.specs.Basics.{if◌then◌else◌, sum, before}
+use Rattle.model.specs.Basics.{if◌then◌otherwise◌, sum, before}
 use Rattle.model.specs.Table.{Shape, first_bin, block_bins}
 use Rattle.model.specs.Due.{due, due_of_bins, due_of_block}
 use Rattle.model.specs.Refusal.{rises}
@@ -19,11 +19,11 @@ use Rattle.model.proofs.Counts.{below_or, all_at, sum_le, sum_split}
 
 -- the due of a bin below the remainder, and of one that is not
 pub due_more : (s : Shape) (y : ℕ) → y < s.buckets % s.bins → due s y ≡ s.buckets / s.bins + 1
-unfolding due if◌then◌else◌
+unfolding due if◌then◌otherwise◌
 due_more s y h = rw (lt-ltb y (s.buckets % s.bins) h)
 
 pub due_less : (s : Shape) (y : ℕ) → s.buckets % s.bins ≤ y → due s y ≡ s.buckets / s.bins
-unfolding due if◌then◌else◌
+unfolding due if◌then◌otherwise◌
 due_less s y h = rw (le-ltb y (s.buckets % s.bins) h)
 
 -- the first m bins

@@ -8,7 +8,7 @@ use native.Mathlib.Decide.{ℕ_discrete}
 use native.Mathlib.Omega.{arith}
 use lib.ListN.{length}
 use borrow.Author.Tests.{ltb-false, eq-eqb}
-use Rattle.model.specs.Basics.{if◌then◌else◌}
+use Rattle.model.specs.Basics.{if◌then◌otherwise◌}
 use Rattle.model.specs.Limits.{max_capacity, max_intervals}
 use Rattle.model.specs.Table.{Shape, Interval, Table, bins, shape, Arrays, table, header, written}
 use Rattle.model.specs.Place.{interval_of, block_of, rank, size}
@@ -94,11 +94,11 @@ module _ (t : Table) (s : Shape) (b : ℕ → ℕ) (is : List Interval) (g : Gro
 module _ (t : Table) (s : Shape) where
   -- the table of each of the two cases
   pub expanded_drained : some_fall t s ≡ true → expanded t s ≡ grown_table t s (drained t s)
-  unfolding expanded if◌then◌else◌
+  unfolding expanded if◌then◌otherwise◌
   expanded_drained e = rw e
 
   pub expanded_filled : some_fall t s ≡ false → expanded t s ≡ grown_table t s (filled t s)
-  unfolding expanded if◌then◌else◌
+  unfolding expanded if◌then◌otherwise◌
   expanded_filled e = rw e
 
 -- the new table is well formed
@@ -202,7 +202,7 @@ grown_sound h a s out sound growth limit =
 
 -- the table of an accepted growth is sound, as the check answers 0 just for sound tables
 pub expand_sound_lem : SoundIff → ExpandSound
-unfolding expand_reply expand_arrays table_reply arrays_after answer if◌then◌else◌
+unfolding expand_reply expand_arrays table_reply arrays_after answer if◌then◌otherwise◌
 expand_sound_lem sound_iff_lem h a s out q =
     let t = table h a in
     let (tests, growth, limit) = expand_passes h a s out q in

@@ -8,7 +8,7 @@ use native.Mathlib.Omega.{arith}
 use lib.Dec.{ltb}
 use lib.ListN.{length}
 use borrow.Author.Tests.{eq-eqb, ne_eqb, lt-ltb, le-ltb}
-use Rattle.model.specs.Basics.{if◌then◌else◌}
+use Rattle.model.specs.Basics.{if◌then◌otherwise◌}
 use Rattle.model.specs.Table.{Shape, Interval, interval, Table, shape}
 use Rattle.model.specs.Place.{interval_of, block_of, size}
 use Rattle.model.specs.Expansion.{grown_tops, has, due_after, last_block, lengthened, gain, length_to, pieces, filled}
@@ -40,13 +40,13 @@ last_of t = last_block t.intervals
 module _ (t : Table) (s : Shape) (c j n : ℕ) where
   -- the last interval's block gets none,
   pub pieces_last : j ≡ last_of t → pieces t s c j (suc n) ≡ pieces t s c (suc j) n
-  unfolding pieces if◌then◌else◌
+  unfolding pieces if◌then◌otherwise◌
   pieces_last e = rw (eq-eqb j (last_of t) e)
 
   -- one that gains nothing neither,
   pub pieces_none
       : (j ≡ last_of t → ⊥) → gain t s j ≡ 0 → pieces t s c j (suc n) ≡ pieces t s c (suc j) n
-  unfolding pieces if◌then◌else◌
+  unfolding pieces if◌then◌otherwise◌
   pieces_none e z = rw (ne_eqb j (last_of t) e, eq-eqb (gain t s j) 0 z)
 
   -- and every other one gets one
@@ -54,17 +54,17 @@ module _ (t : Table) (s : Shape) (c j n : ℕ) where
       : (j ≡ last_of t → ⊥) → (gain t s j ≡ 0 → ⊥)
       → pieces t s c j (suc n)
       ≡ interval (c + gain t s j) j (c - has t j) ∷ pieces t s (c + gain t s j) (suc j) n
-  unfolding pieces if◌then◌else◌
+  unfolding pieces if◌then◌otherwise◌
   pieces_one e z = rw (ne_eqb j (last_of t) e, ne_eqb (gain t s j) 0 z)
 
 -- the blocks of a list's intervals, past the first of them
 blocks_past
     : (i : Interval) (is : List Interval) (x : ℕ) → i.end ≤ x → (interval_of (i ∷ is) x).block ≡ (interval_of is x).block
-unfolding interval_of if◌then◌else◌
+unfolding interval_of if◌then◌otherwise◌
 blocks_past i is x l = rw (le-ltb x i.end l)
 
 blocks_first : (i : Interval) (is : List Interval) (x : ℕ) → x < i.end → (interval_of (i ∷ is) x).block ≡ i.block
-unfolding interval_of if◌then◌else◌
+unfolding interval_of if◌then◌otherwise◌
 blocks_first i is x l = rw (lt-ltb x i.end l)
 
 -- what a block gains brings it to its due
@@ -149,8 +149,8 @@ module _ (t : Table) (s : Shape) (b : ℕ → ℕ) where
 unfoldable pub filled_block : Table → Shape → ℕ → ℕ
 filled_block t s x =
     if ltb x t.buckets then block_of t x
-    else if ltb x (length_to t s) then last_of t
-    else (interval_of
+    otherwise if ltb x (length_to t s) then last_of t
+    otherwise (interval_of
     (pieces t s (length_to t s) 0 (length (grown_tops t s)))
     x
     ).block
@@ -158,13 +158,13 @@ filled_block t s x =
 module _ (t : Table) (s : Shape) where
   -- old buckets stay, the next ones are of the last interval's block, and the others of the pieces'
   pub filled_old : (x : ℕ) → x < t.buckets → filled_block t s x ≡ block_of t x
-  unfolding filled_block if◌then◌else◌
+  unfolding filled_block if◌then◌otherwise◌
   filled_old x l = rw (lt-ltb x t.buckets l)
 
   filled_last
       : (x : ℕ) → t.buckets ≤ x → x < length_to t s
       → filled_block t s x ≡ last_of t
-  unfolding filled_block if◌then◌else◌
+  unfolding filled_block if◌then◌otherwise◌
   filled_last x l k =
       rw (le-ltb x t.buckets l, lt-ltb x (length_to t s) k)
 
@@ -172,7 +172,7 @@ module _ (t : Table) (s : Shape) where
       : (x : ℕ) → length_to t s ≤ x
       → filled_block t s x
       ≡ (interval_of (pieces t s (length_to t s) 0 (length (grown_tops t s))) x).block
-  unfolding filled_block if◌then◌else◌
+  unfolding filled_block if◌then◌otherwise◌
   filled_piece x l =
       rw
       (le-ltb x t.buckets (omega arith), le-ltb x (length_to t s) l)

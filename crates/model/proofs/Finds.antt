@@ -9,7 +9,7 @@ use native.Mathlib.Nat.{zero-add, div-add-mod', mod-lt, div-eq_of_lt, mod-eq_of_
 use native.Mathlib.Omega.{arith}
 use lib.ListN.{get_or}
 use borrow.Author.Tests.{eq-eqb, le-leb, lt-leb, lt-ltb, le-ltb, eqb-true, leb-true, ltb-true}
-use Rattle.model.specs.Basics.{if◌then◌else◌, from, before}
+use Rattle.model.specs.Basics.{if◌then◌otherwise◌, from, before}
 use Rattle.model.specs.Limits.{label}
 use Rattle.model.specs.Table.{Table, bins, Interval, interval, first_bin, block_bins, Arrays, table}
 use Rattle.model.specs.Place.{block_of, rank, bin, position, held, bin_size}
@@ -77,7 +77,7 @@ Answered a j r n i =
     ⊎ ((m : ℕ) × (m < i + n) × Including a m j r × (holder (from (entry a) i n) (before a.ends i) i j r ≡ In m))
 
 answered_from : (a : Arrays) (j r n i : ℕ) → Answered a j r n i
-unfolding holder from if◌then◌else◌ before
+unfolding holder from if◌then◌otherwise◌ before
 answered_from a j r zero i = inl (refl, λ k le lt c. omega arith)
 answered_from a j r (suc n) i =
     ⊎_elim
@@ -189,7 +189,7 @@ module _ (h : Header) (a : Arrays) (s : Formed h a) where
       : (x j m p : ℕ) → x < h.buckets → j < h.block_count → m < block_bins (table h a).tops j
       → block_of (table h a) x ≡ j → rank (table h a) x ≡ p * block_bins (table h a).tops j + m
       → found_at (table h a) (first_bin (table h a).tops j + m) (p + label) ≡ record { refusal = 0; bucket = x }
-  unfolding found_at held_at labelled rank_at if◌then◌else◌
+  unfolding found_at held_at labelled rank_at if◌then◌otherwise◌
   found_at_lem x j m p l below k b r =
       let y = first_bin (table h a).tops j + m in
       let place : m ≡ y - first_bin (table h a).tops j = omega arith in
@@ -267,7 +267,7 @@ rank_at_place tops y p j m block e = rw block (omega arith)
 module _ (h : Header) (a : Arrays) (s : Formed h a) (y p : ℕ) (l : y < bins (table h a)) where
   -- at a position of the label there is none
   found_labelled : p < label → (found_at (table h a) y p).refusal ≡ 7
-  unfolding found_at held_at labelled found_of if◌then◌else◌
+  unfolding found_at held_at labelled found_of if◌then◌otherwise◌
   found_labelled k = rw (lt-ltb p label k)
 
   -- a position past the label, below the bin's size from there, has a bucket
@@ -286,7 +286,7 @@ module _ (h : Header) (a : Arrays) (s : Formed h a) (y p : ℕ) (l : y < bins (t
 
   -- at one that is not, no interval includes the rank
   found_outside : bin_size (table h a) y + label ≤ p → (found_at (table h a) y p).refusal ≡ 7
-  unfolding found_at held_at labelled found_of before if◌then◌else◌
+  unfolding found_at held_at labelled found_of before if◌then◌otherwise◌
   found_outside k =
       let t = table h a in
       let (j, m, below, inside, e) = bin_block h a s y l in

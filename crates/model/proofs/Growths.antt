@@ -10,7 +10,7 @@ use lib.Dec.{leb}
 use lib.ListN.{length, get_or, length-append, get_or-append}
 use lib.Seq.{get_or-append_seam}
 use borrow.Author.Tests.{ltb-false, eqb-false, le-leb, leb-true, lt-ltb, le-ltb, not-true, not-false}
-use Rattle.model.specs.Basics.{if◌then◌else◌, ◌and◌, sum, before}
+use Rattle.model.specs.Basics.{if◌then◌otherwise◌, ◌and◌, sum, before}
 use Rattle.model.specs.Limits.{max_buckets, max_bins, max_blocks}
 use Rattle.model.specs.Table.{Shape, Interval, Table, bins, shape}
 use Rattle.model.specs.Place.{block_of, held, size}
@@ -83,11 +83,11 @@ roomy t s h =
 
 -- the new block is there just where there are more bins
 pub tops_more : (t : Table) (s : Shape) → bins t < s.bins → grown_tops t s ≡ t.tops ++ (s.bins ∷ [])
-unfolding grown_tops if◌then◌else◌
+unfolding grown_tops if◌then◌otherwise◌
 tops_more t s l = rw (lt-ltb (bins t) s.bins l)
 
 pub tops_same : (t : Table) (s : Shape) → s.bins ≤ bins t → grown_tops t s ≡ t.tops
-unfolding grown_tops if◌then◌else◌
+unfolding grown_tops if◌then◌otherwise◌
 tops_same t s l = rw (le-ltb (bins t) s.bins l)
 
 -- the old blocks keep their tops

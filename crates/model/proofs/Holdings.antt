@@ -12,7 +12,7 @@ use lib.Dec.{eqb}
 use lib.ListN.{length, get_or, take, set, replicate, length-set, length-replicate, get_or-replicate}
 use lib.Seq.{length-take-le, get_or-take, get_or-set_same, get_or-set_other}
 use borrow.Author.Tests.{lt-ltb, le-ltb, eq-eqb, ne_eqb}
-use Rattle.model.specs.Basics.{if◌then◌else◌, bit, sum, count, from, before}
+use Rattle.model.specs.Basics.{if◌then◌otherwise◌, bit, sum, count, from, before}
 use Rattle.model.specs.Limits.{max_blocks}
 use Rattle.model.specs.Table.{Shape, interval, bins, shape, Arrays, arrays, table}
 use Rattle.model.specs.Place.{interval_of, block_of, held, others}
@@ -30,7 +30,7 @@ block_same
     : (e b c c' : ℕ → ℕ) (n i x : ℕ)
     → (interval_of (from (λ i. interval (e i) (b i) (c i)) i n) x).block
     ≡ (interval_of (from (λ i. interval (e i) (b i) (c' i)) i n) x).block
-unfolding interval_of from if◌then◌else◌
+unfolding interval_of from if◌then◌otherwise◌
 block_same e b c c' zero i x = refl
 block_same e b c c' (suc n) i x =
     ⊎_elim

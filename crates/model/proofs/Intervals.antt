@@ -10,7 +10,7 @@ use native.Mathlib.Omega.{arith}
 use lib.Dec.{eqb}
 use lib.ListN.{get_or}
 use borrow.Author.Tests.{lt-ltb, le-ltb}
-use Rattle.model.specs.Basics.{if◌then◌else◌, bit, sum, count, from, before}
+use Rattle.model.specs.Basics.{if◌then◌otherwise◌, bit, sum, count, from, before}
 use Rattle.model.specs.Table.{Interval, interval, Arrays, table}
 use Rattle.model.specs.Place.{interval_of, block_of, rank, held, others}
 use Rattle.model.specs.declared.table.Header.{Header}
@@ -36,7 +36,7 @@ before_mono xs n r (suc j) i l k =
 interval_from_lem
     : (f : ℕ → Interval) (n i m x : ℕ) → i ≤ m → m < i + n
     → ((l : ℕ) → i ≤ l → l < m → (f l).end ≤ x) → x < (f m).end → interval_of (from f i n) x ≡ f m
-unfolding interval_of from if◌then◌else◌
+unfolding interval_of from if◌then◌otherwise◌
 interval_from_lem f zero i m x le lt before after = absurd (omega arith)
 interval_from_lem f (suc n) i m x le lt before after =
     ⊎_elim

@@ -7,7 +7,7 @@ use mathlib.Core.List.{List, [], ◌∷◌}
 use native.Mathlib.Decide.{ℕ_discrete}
 use native.Mathlib.Omega.{arith}
 use borrow.Author.Tests.{eq-eqb, ne_eqb}
-use Rattle.model.specs.Basics.{if◌then◌else◌, ◌and◌, ◌or◌}
+use Rattle.model.specs.Basics.{if◌then◌otherwise◌, ◌and◌, ◌or◌}
 use Rattle.model.specs.Refusal.{first}
 use Rattle.model.specs.Calls.{answer}
 use Rattle.model.specs.Console.{read, Session, empty, fresh, grown, no_map, current, is_fresh, is_unreadable, line_tests, command_tests, command_refusal}
@@ -23,14 +23,14 @@ use Rattle.model.proofs.Refusals.{and_false, first_number, accepted as answer_ac
 
 -- the refusals of an unreadable line: 10 and 23 without a map, and 23 with one
 unreadable_orders : (s : Session) → Orders s Unreadable
-unfolding no_map is_fresh is_unreadable line_tests command_refusal ten_first first if◌then◌else◌ ◌and◌
+unfolding no_map is_fresh is_unreadable line_tests command_refusal ten_first first if◌then◌otherwise◌ ◌and◌
 unreadable_orders empty = inl (refl, refl, refl)
 unreadable_orders (fresh t) = inr (refl, refl)
 unreadable_orders (grown t u) = inr (refl, refl)
 
 -- a readable line passes 23 in both
 orders : (s : Session) (c : Command) → Orders s c
-unfolding is_fresh is_unreadable line_tests command_refusal ten_first first if◌then◌else◌
+unfolding is_fresh is_unreadable line_tests command_refusal ten_first first if◌then◌otherwise◌
 orders s (Fresh b n) = inr (and_false (no_map s), rw (and_false (no_map s)))
 orders s (Grow b n) = inr (and_false (no_map s), refl)
 orders s (Where x) = inr (and_false (no_map s), refl)
@@ -39,7 +39,7 @@ orders s Moves = inr (and_false (no_map s), refl)
 orders s Unreadable = unreadable_orders s
 
 pub two_orders_lem : TwoOrders
-unfolding after after_ten_first answer if◌then◌else◌
+unfolding after after_ten_first answer if◌then◌otherwise◌
 two_orders_lem s l = (
   orders s (read l),
   ⊎_elim (λ u. rw (u.1, u.2)) (λ e. rw e.1) (orders s (read l)),
@@ -57,12 +57,12 @@ refuses r s l e n = (
 
 -- of an unreadable line, with a map or without
 pub unreadable_refusal : (s : Session) → command_refusal s Unreadable ≡ 23
-unfolding is_unreadable line_tests command_refusal first if◌then◌else◌
+unfolding is_unreadable line_tests command_refusal first if◌then◌otherwise◌
 unreadable_refusal s = refl
 
 -- of a readable one other than `fresh`, without a map
 unmapped_refusal : (c : Command) → (c ≡ Unreadable → ⊥) → ((b n : ℕ) → c ≡ Fresh b n → ⊥) → command_refusal empty c ≡ 10
-unfolding no_map is_fresh is_unreadable line_tests command_refusal first if◌then◌else◌ ◌and◌
+unfolding no_map is_fresh is_unreadable line_tests command_refusal first if◌then◌otherwise◌ ◌and◌
 unmapped_refusal (Fresh b n) u f = absurd (f b n refl)
 unmapped_refusal (Grow b n) u f = refl
 unmapped_refusal (Where x) u f = refl
@@ -80,7 +80,7 @@ lines_refused_lem = (
 
 -- there is no map after an accepted command just where there was none and it is not `fresh`; a growth needs one
 accepted_map : (s : Session) (c : Command) → command_refusal s c ≡ 0 → no_map (accepted s c) ≡ (no_map s and not (is_fresh c))
-unfolding accepted no_map is_fresh is_unreadable line_tests command_refusal first if◌then◌else◌
+unfolding accepted no_map is_fresh is_unreadable line_tests command_refusal first if◌then◌otherwise◌
 accepted_map s (Fresh b n) e = sym (and_false (no_map s))
 accepted_map s (Grow b n) e = sym (first_number 10 (no_map s and true) (command_tests (current s) (Grow b n)) (omega arith) e).0
 accepted_map s (Where x) e = sym (and_true (no_map s) true refl)

@@ -7,7 +7,7 @@ use native.Mathlib.Decide.{ℕ_discrete}
 use native.Mathlib.Omega.{arith}
 use lib.Dec.{ltb, eqb}
 use borrow.Author.Tests.{lt-ltb, le-ltb}
-use Rattle.model.specs.Basics.{if◌then◌else◌, bit, sum, count}
+use Rattle.model.specs.Basics.{if◌then◌otherwise◌, bit, sum, count}
 use Rattle.model.specs.Table.{Interval}
 use Rattle.model.specs.Place.{interval_of, size}
 use Rattle.model.specs.Expansion.{last_block, lengthened}
@@ -184,7 +184,7 @@ told_placed b g s x i h l k =
 pub tells_placed
     : (b : ℕ → ℕ) (g s : ℕ) (is : List Interval) (e : ℕ) → Tells b g s is e
     → (x : ℕ) → s ≤ x → x < e → Placed b g x (interval_of is x)
-unfolding interval_of if◌then◌else◌
+unfolding interval_of if◌then◌otherwise◌
 tells_placed b g s [] e h x l k = absurd (omega arith)
 tells_placed b g s (i ∷ is) e h x l k =
     ⊎_elim

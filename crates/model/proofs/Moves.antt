@@ -11,7 +11,7 @@ use lib.Dec.{ltb, eqb}
 use lib.ListN.{length, get_or, take, drop, length-append, take-append-drop, get_or-append}
 use lib.Seq.{length-take-le}
 use borrow.Author.Tests.{ltb-false, lt-ltb, le-ltb}
-use Rattle.model.specs.Basics.{if◌then◌else◌, bit, sum, count, from, joined, before}
+use Rattle.model.specs.Basics.{if◌then◌otherwise◌, bit, sum, count, from, joined, before}
 use Rattle.model.specs.Table.{Shape, Table, bins, shape, first_bin, block_bins, Arrays, table}
 use Rattle.model.specs.Place.{block_of, bin, position, held, size}
 use Rattle.model.specs.Due.{due_of_block}
@@ -54,7 +54,7 @@ before_append xs ys (suc j) l = get_or-append xs ys 0 j l
 
 -- the new tops are the old ones, and what comes after them
 new_tops : (t : Table) (s : Shape) → (ys : List ℕ) × ((expanded t s).tops ≡ t.tops ++ ys)
-unfolding expanded grown_tops if◌then◌else◌
+unfolding expanded grown_tops if◌then◌otherwise◌
 new_tops t s =
     ⊎_elim
     (λ l. (s.bins ∷ [], rw (lt-ltb (bins t) s.bins l)))
@@ -121,7 +121,7 @@ joined_length f (suc n) i =
     )
 
 row_length : (t u : Table) (x : ℕ) → length (row_if t u x) ≡ bit (differs t u x)
-unfolding row_if if◌then◌else◌ bit
+unfolding row_if if◌then◌otherwise◌ bit
 row_length t u x = ⊎_elim (λ e. rw e.0) (λ e. rw e.0) (bit_cases (differs t u x))
 
 -- the rows are as many as the moved buckets

@@ -6,7 +6,7 @@ use mathlib.Core.List.{List, [], ◌∷◌, ◌++◌, append-nil}
 use native.Mathlib.Omega.{arith}
 use lib.ListN.{length, take, drop, length-append, length-take, length-drop, drop_of_length-le}
 use lib.Seq.{take-nil, take_all, take_at, drop_at, take-append-le, take-append-add, drop-append-le, drop-append-add}
-use Rattle.model.specs.Basics.{if◌then◌else◌, from, joined}
+use Rattle.model.specs.Basics.{if◌then◌otherwise◌, from, joined}
 use Rattle.model.specs.Table.{Table, over}
 use Rattle.model.specs.Relocations.{row, row_if, page}
 use Rattle.model.specs.Expansion.{differs}
@@ -50,7 +50,7 @@ fives_from f h i (suc n) = (h i, fives_from f h (suc i) n)
 
 -- the rows of any two tables
 fives_row : (t u : Table) (x : ℕ) → Fives (row_if t u x)
-unfolding row_if row if◌then◌else◌
+unfolding row_if row if◌then◌otherwise◌
 fives_row t u x = ⊎_elim (λ e. rw e.0 (refl, tt)) (λ e. rw e.0 tt) (bit_cases (differs t u x))
 
 pub fives_rows : (t u : Table) (i n : ℕ) → Fives (joined (from (row_if t u) i n))

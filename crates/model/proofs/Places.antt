@@ -26,7 +26,7 @@ use lib.Dec.{ltb, eqb}
 use lib.ListN.{get_or, take}
 use lib.Seq.{get_or-take, length-take-le}
 use borrow.Author.Tests.{lt-ltb, le-ltb}
-use Rattle.model.specs.Basics.{if◌then◌else◌, bit, count, before}
+use Rattle.model.specs.Basics.{if◌then◌otherwise◌, bit, count, before}
 use Rattle.model.specs.Table.{Shape, bins, shape, first_bin, block_bins, Arrays, table}
 use Rattle.model.specs.Place.{block_of, rank, bin, held, size, bin_size}
 use Rattle.model.specs.Search.{block_of_bin}
@@ -144,7 +144,7 @@ module _ (b n m : ℕ) (l : m < n) where
 -- the first top past a bin is its block's
 Block_of
     : (xs : List ℕ) (j y : ℕ) → ((i : ℕ) → i < j → get_or xs i 0 ≤ y) → y < get_or xs j 0 → block_of_bin xs y ≡ j
-unfolding block_of_bin if◌then◌else◌
+unfolding block_of_bin if◌then◌otherwise◌
 Block_of [] j y before after = absurd (not-suc-le-zero after)
 Block_of (x ∷ xs) zero y before after = rw (lt-ltb y x after)
 Block_of (x ∷ xs) (suc j) y before after =

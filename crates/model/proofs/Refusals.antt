@@ -6,7 +6,7 @@ use mathlib.Core.Bool.{Bool, true, false, not, false≢true}
 use mathlib.Core.List.{List, [], ◌∷◌, ◌++◌}
 use native.Mathlib.Omega.{arith}
 use borrow.Author.Tests.{ltb-false, le-ltb, eqb-false, ne_eqb}
-use Rattle.model.specs.Basics.{if◌then◌else◌, ◌and◌, ◌or◌}
+use Rattle.model.specs.Basics.{if◌then◌otherwise◌, ◌and◌, ◌or◌}
 use Rattle.model.specs.Refusal.{Test, first, outside}
 use Rattle.model.specs.Calls.{answer}
 use Rattle.model.proofs.Counts.{bit_cases}
@@ -59,10 +59,10 @@ not_outside limit x h k = or_both _ _ (ne_eqb x 0 (λ e. omega arith)) (le-ltb l
 -- no refusal: the first test fails, and so do those after it
 pub first_clear
     : (t : Test) (ts : List Test) → (t.0 ≡ 0 → ⊥) → first (t ∷ ts) ≡ 0 → (t.1 ≡ false) × (first ts ≡ 0)
-unfolding first if◌then◌else◌
+unfolding first if◌then◌otherwise◌
 first_clear t ts n = go t.1
   where
-    go : (b : Bool) → (if b then t.0 else first ts) ≡ 0 → (b ≡ false) × (first ts ≡ 0)
+    go : (b : Bool) → (if b then t.0 otherwise first ts) ≡ 0 → (b ≡ false) × (first ts ≡ 0)
     go true e = absurd (n e)
     go false e = (refl, e)
 
@@ -73,7 +73,7 @@ first_number n t ts l = first_clear (n, t) ts (λ z. omega arith)
 
 -- and the other way: `first_pass` test by test, `first_none` at the end
 pub first_pass : (t : Test) (ts : List Test) → t.1 ≡ false → first ts ≡ 0 → first (t ∷ ts) ≡ 0
-unfolding first if◌then◌else◌
+unfolding first if◌then◌otherwise◌
 first_pass t ts h e = rw h e
 
 pub first_none : first [] ≡ 0
@@ -82,12 +82,12 @@ first_none = refl
 
 -- a test that fails is passed over
 pub first_skip : (t : Test) (ts : List Test) → t.1 ≡ false → first (t ∷ ts) ≡ first ts
-unfolding first if◌then◌else◌
+unfolding first if◌then◌otherwise◌
 first_skip t ts h = rw h
 
 -- a test that holds is the answer
 pub first_here : (t : Test) (ts : List Test) → t.1 ≡ true → first (t ∷ ts) ≡ t.0
-unfolding first if◌then◌else◌
+unfolding first if◌then◌otherwise◌
 first_here t ts h = rw h
 
 -- another number than the first test's is given by those after it
@@ -131,10 +131,10 @@ first_both (t ∷ ts) us n e =
 
 -- an accepted call gives its answer
 pub accepted : {A : Type 0} (r : ℕ) (a b : A) → r ≡ 0 → answer r a b ≡ a
-unfolding answer if◌then◌else◌
+unfolding answer if◌then◌otherwise◌
 accepted r a b h = rw h
 
 -- and a refused one its refusal
 pub refused : {A : Type 0} (r : ℕ) (a b : A) → (r ≡ 0 → ⊥) → answer r a b ≡ b
-unfolding answer if◌then◌else◌
+unfolding answer if◌then◌otherwise◌
 refused r a b h = rw (ne_eqb r 0 h)

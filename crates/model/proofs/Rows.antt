@@ -9,7 +9,7 @@ use native.Mathlib.Omega.{arith}
 use lib.ListN.{length, get_or, take, length-append}
 use lib.Seq.{get_or-take, get_or_at}
 use borrow.Author.Tests.{eq-eqb, ne_eqb}
-use Rattle.model.specs.Basics.{if◌then◌else◌, ◌and◌, sum, count, from, joined, before}
+use Rattle.model.specs.Basics.{if◌then◌otherwise◌, ◌and◌, sum, count, from, joined, before}
 use Rattle.model.specs.Limits.{label}
 use Rattle.model.specs.Table.{Shape, Interval, Table, Arrays, table, bins, shape, first_bin, block_bins}
 use Rattle.model.specs.Place.{block_of, rank, bin, position, size}
@@ -71,7 +71,7 @@ module _ (t u : Table) where
   -- buckets from m up to e of which none moves, or each
   rows_stay
       : (m e : ℕ) → m ≤ e → ((x : ℕ) → m ≤ x → x < e → differs t u x ≡ false) → rows_below t u e ≡ rows_below t u m
-  unfolding row_if if◌then◌else◌
+  unfolding row_if if◌then◌otherwise◌
   rows_stay m e l same =
       let whole : e ≡ m + (e - m) = omega arith in
       ap (rows_below t u) whole
@@ -83,7 +83,7 @@ module _ (t u : Table) where
   rows_move
       : (m e : ℕ) → m ≤ e → ((x : ℕ) → m ≤ x → x < e → differs t u x ≡ true)
       → rows_below t u e ≡ rows_below t u m ++ from (row t u) m (e - m)
-  unfolding row_if if◌then◌else◌
+  unfolding row_if if◌then◌otherwise◌
   rows_move m e l other =
       let whole : e ≡ m + (e - m) = omega arith in
       ap (rows_below t u) whole
@@ -124,7 +124,7 @@ module _ (t u : Table) where
   -- a moved bucket's row stands at its order number: the number of moved buckets below it
   pub row_at_lem
       : (x : ℕ) → x < t.buckets → differs t u x ≡ true → get_or (rows t u) (count (differs t u) x) [] ≡ row t u x
-  unfolding rows joined from row_if if◌then◌else◌
+  unfolding rows joined from row_if if◌then◌otherwise◌
   row_at_lem x l e =
       let whole : t.buckets ≡ suc x + (t.buckets - suc x) = omega arith in
       let one : suc x - x ≡ 1 = omega arith in

@@ -8,7 +8,7 @@ use native.Mathlib.Omega.{arith}
 use lib.ListN.{get_or}
 use lib.Dec.{ltb}
 use borrow.Author.Tests.{eq-eqb, ne_eqb, le-leb, lt-leb}
-use Rattle.model.specs.Basics.{if◌then◌else◌}
+use Rattle.model.specs.Basics.{if◌then◌otherwise◌}
 use Rattle.model.specs.Table.{Interval, interval, Table, bins}
 use Rattle.model.specs.Place.{interval_of, block_of, bin, position}
 use Rattle.model.specs.Refusal.{first, searched, bucket_past, bin_past}
@@ -24,7 +24,7 @@ use Rattle.model.proofs.Refusals.{first_skip, first_clear}
 
 -- a search's refusal as the only test left
 pub first_searched : (r : ℕ) → first (searched r) ≡ r
-unfolding first searched if◌then◌else◌
+unfolding first searched if◌then◌otherwise◌
 first_searched r =
     elim (ℕ_discrete r 0) [
       | yes e ↦ rw (eq-eqb r 0 e, e)
@@ -36,14 +36,14 @@ pub place_whole
     : (t : Table) (l : Located)
     → answer (place_of t l).refusal (place_of t l) (record { refusal = (place_of t l).refusal; bin = 0; position = 0 })
     ≡ place_of t l
-unfolding answer place_of if◌then◌else◌
+unfolding answer place_of if◌then◌otherwise◌
 place_whole t (At i r) = refl
 place_whole t Outside = refl
 
 pub found_whole
     : (t : Table) (r : ℕ) (o : Holder)
     → answer (found_of t r o).refusal (found_of t r o) (record { refusal = (found_of t r o).refusal; bucket = 0 }) ≡ found_of t r o
-unfolding answer found_of if◌then◌else◌
+unfolding answer found_of if◌then◌otherwise◌
 found_whole t r (In k) = refl
 found_whole t r Nothing = refl
 
@@ -67,7 +67,7 @@ found_refusal t y p e =
 
 -- the interval at the place that the search answers is the bucket's
 index_interval : (is : List Interval) (x : ℕ) → get_or is (index_of is x) (interval 0 0 0) ≡ interval_of is x
-unfolding index_of interval_of if◌then◌else◌
+unfolding index_of interval_of if◌then◌otherwise◌
 index_interval [] x = refl
 index_interval (i ∷ rest) x =
     ⊎_elim
@@ -76,15 +76,15 @@ index_interval (i ∷ rest) x =
     (bit_cases (ltb x i.end))
 
 pub placed : (t : Table) (x : ℕ) → x < t.buckets → place_at t x ≡ record { refusal = 0; bin = bin t x; position = position t x }
-unfolding place_at place_of located bucket_past interval_at if◌then◌else◌ bin position block_of
+unfolding place_at place_of located bucket_past interval_at if◌then◌otherwise◌ bin position block_of
 placed t x l = rw (lt-leb t.buckets x l, index_interval t.intervals x)
 
 pub outside : (t : Table) (x : ℕ) → t.buckets ≤ x → place_at t x ≡ record { refusal = 6; bin = 0; position = 0 }
-unfolding place_at place_of located bucket_past if◌then◌else◌
+unfolding place_at place_of located bucket_past if◌then◌otherwise◌
 outside t x l = rw (le-leb t.buckets x l)
 
 pub place_refused_lem : PlaceRefused
-unfolding place_tests first bucket_past if◌then◌else◌
+unfolding place_tests first bucket_past if◌then◌otherwise◌
 place_refused_lem t x =
     first_searched (place_at t x).refusal
     ∙ ⊎_elim

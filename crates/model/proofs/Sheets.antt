@@ -9,7 +9,7 @@ use native.Mathlib.Omega.{arith}
 use lib.ListN.{length, get_or, take, length-append, length-replicate, get_or-replicate, get_or-append}
 use lib.Seq.{take_at, drop_at, get_or-append-add, get_or-take}
 use borrow.Author.Tests.{lt-ltb, le-ltb, ne_eqb}
-use Rattle.model.specs.Basics.{if◌then◌else◌, from, joined, before}
+use Rattle.model.specs.Basics.{if◌then◌otherwise◌, from, joined, before}
 use Rattle.model.specs.Decimal.{digits_only, decimal}
 use Rattle.model.specs.Table.{Arrays, arrays, table, first_bin, block_bins}
 use Rattle.model.specs.Refusal.{first}
@@ -63,12 +63,12 @@ field_length n =
 
 -- blanks are skipped, digits are not
 skipped : (m : ℕ) (l : List ℕ) → unblanked (blanks m ++ l) ≡ unblanked l
-unfolding unblanked if◌then◌else◌
+unfolding unblanked if◌then◌otherwise◌
 skipped zero l = refl
 skipped (suc m) l = skipped m l
 
 kept : (ds : List ℕ) → digits_only ds ≡ true → unblanked ds ≡ ds
-unfolding unblanked if◌then◌else◌
+unfolding unblanked if◌then◌otherwise◌
 kept [] e = refl
 kept (c ∷ cs) e = rw (ne_eqb c 32 (λ (h : c ≡ 32). omega (arith, only_at (c ∷ cs) e 0 (omega arith))))
 
@@ -157,7 +157,7 @@ fields_inked (n ∷ ns) = inked_append (field n) (joined (map field ns)) (field_
 
 -- a line up to its line feed
 lines_next : (l more : List ℕ) → Inked l → lines_of (l ++ 10 ∷ more) ≡ l ∷ lines_of more
-unfolding lines_of in_front if◌then◌else◌
+unfolding lines_of in_front if◌then◌otherwise◌
 lines_next [] more p = refl
 lines_next (c ∷ cs) more p =
     rw (ne_eqb c 10 (λ (e : c ≡ 10). omega (arith, p 0 (omega arith))))

@@ -10,7 +10,7 @@ use lib.Dec.{eqb}
 use lib.ListN.{length, get_or, take, drop, length-append, length-drop, length-map, get_or-append, get_or-map}
 use lib.Seq.{length-take-le, take-length, take_at, take-append_seam, get_or-take, ext_get_or}
 use borrow.Author.Tests.{lt-ltb, le-ltb}
-use Rattle.model.specs.Basics.{if◌then◌else◌, bit, count, from, before}
+use Rattle.model.specs.Basics.{if◌then◌otherwise◌, bit, count, from, before}
 use Rattle.model.specs.Table.{
   Shape,
   Interval,
@@ -192,7 +192,7 @@ block_from
     : (f g : ℕ → Interval) (i n x : ℕ)
     → ((m : ℕ) → i ≤ m → m < i + n → ((f m).end ≡ (g m).end) × ((f m).block ≡ (g m).block))
     → (interval_of (from f i n) x).block ≡ (interval_of (from g i n) x).block
-unfolding interval_of from if◌then◌else◌
+unfolding interval_of from if◌then◌otherwise◌
 block_from f g i zero x e = refl
 block_from f g i (suc n) x e =
     let here = e i (le_refl i) (omega arith) in

@@ -10,7 +10,7 @@ use native.Mathlib.Omega.{arith}
 use lib.ListN.{length, length-append}
 use lib.Seq.{get_or-append_seam}
 use borrow.Author.Tests.{lt-ltb, le-ltb}
-use Rattle.model.specs.Basics.{if◌then◌else◌, before}
+use Rattle.model.specs.Basics.{if◌then◌otherwise◌, before}
 use Rattle.model.specs.Table.{Shape, Table, bins, shape, Arrays, table}
 use Rattle.model.specs.Sound.{Sound}
 use Rattle.model.specs.Initial.{initial}
@@ -60,7 +60,7 @@ last_entry xs y =
 
 -- the new table has the sizes asked for, where these are no smaller
 bins_expanded : (t : Table) (s : Shape) → bins t ≤ s.bins → bins (expanded t s) ≡ s.bins
-unfolding bins expanded grown_tops if◌then◌else◌
+unfolding bins expanded grown_tops if◌then◌otherwise◌
 bins_expanded t s l =
     ⊎_elim
     (λ m. rw (lt-ltb (bins t) s.bins m) (last_entry t.tops s.bins))

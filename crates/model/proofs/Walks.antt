@@ -7,7 +7,7 @@ use native.Mathlib.Nat.{add-zero}
 use native.Mathlib.Omega.{arith}
 use borrow.Author.Tests.{eq-eqb, ne_eqb}
 use lib.ListN.{length}
-use Rattle.model.specs.Basics.{if◌then◌else◌, from}
+use Rattle.model.specs.Basics.{if◌then◌otherwise◌, from}
 use Rattle.model.specs.Table.{Shape, Interval, interval, Table}
 use Rattle.model.specs.Expansion.{last_block, lengthened, plan, parts, plan_for, parted, moved_after, extended}
 use Rattle.model.specs.declared.plan.Action.{Action}
@@ -26,7 +26,7 @@ lengthened_none (i ∷ []) = ap (λ e. interval e i.block i.adjustment ∷ []) (
 lengthened_none (i ∷ (j ∷ is)) = ap (λ l. i ∷ l) (lengthened_none (j ∷ is))
 
 pub extended_none : (g b w : ℕ) (is : List Interval) → extended g b 0 w is ≡ is
-unfolding extended if◌then◌else◌
+unfolding extended if◌then◌otherwise◌
 extended_none g b w is =
     ⊎_elim
     (λ l. rw (eq-eqb (last_block is) g l) (lengthened_none is))
@@ -37,7 +37,7 @@ extended_none g b w is =
 extended_cons
     : (g b m w : ℕ) (i j : Interval) (is : List Interval)
     → extended g b m w (i ∷ (j ∷ is)) ≡ i ∷ extended g b m w (j ∷ is)
-unfolding extended if◌then◌else◌ last_block lengthened
+unfolding extended if◌then◌otherwise◌ last_block lengthened
 extended_cons g b m w i j is =
     ⊎_elim
     (λ l. rw (eq-eqb (last_block (j ∷ is)) g l) refl)

@@ -1,12 +1,12 @@
 -- Tests, sums, counts and lists: the words in which the other files are written. Assumes nothing.
 use Rattle.std.specs.Prelude.{ℕ, zero, suc, ◌+◌, Bool, true, false, List, [], ◌∷◌, ◌++◌, get_or}
 
-infixr 10 if◌then◌else◌
+infixr 10 if◌then◌otherwise◌
 infixl 35 ◌and◌
 infixl 30 ◌or◌
-unfoldable pub if◌then◌else◌ : {A : Type 0} → Bool → A → A → A
-if true then a else b = a
-if false then a else b = b
+unfoldable pub if◌then◌otherwise◌ : {A : Type 0} → Bool → A → A → A
+if true then a otherwise b = a
+if false then a otherwise b = b
 
 unfoldable pub ◌and◌ : Bool → Bool → Bool
 true and b = b

@@ -2,7 +2,7 @@
 -- afterwards. The mover's call stands in its own crate, `mover`.
 -- A refusal replies with its number and zeros, and changes no list. Assumes nothing.
 use Rattle.std.specs.Prelude.{ℕ, List, [], ◌∷◌, ◌++◌, length, eqb}
-use Rattle.model.specs.Basics.{if◌then◌else◌, ◌or◌, joined}
+use Rattle.model.specs.Basics.{if◌then◌otherwise◌, ◌or◌, joined}
 use Rattle.model.specs.Table.{Shape, Table, Arrays, table, header, over, written}
 use Rattle.model.specs.Place.{places, bin_size}
 use Rattle.model.specs.Refusal.{
@@ -54,7 +54,7 @@ use Rattle.model.specs.declared.reply.SheetReply.{SheetReply}
 
 -- what a call with refusal number r gives: a where it is accepted, b where it is refused
 unfoldable pub answer : {A : Type 0} → ℕ → A → A → A
-answer r a b = if eqb r 0 then a else b
+answer r a b = if eqb r 0 then a otherwise b
 
 abbrev pub no_header : Header
 no_header = record { buckets = 0; capacity = 0; block_count = 0; interval_count = 0 }

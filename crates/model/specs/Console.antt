@@ -2,7 +2,7 @@
 use Rattle.std.specs.Prelude.{ℕ, Bool, true, false, not, List, [], ◌∷◌, ◌++◌, map, length, leb, eqb}
 use Prim.Native.Char.{code}
 use Prim.Native.String.{String, [] as end_of_text, ◌∷◌ as ◌before_text◌}
-use Rattle.model.specs.Basics.{if◌then◌else◌, ◌and◌, joined}
+use Rattle.model.specs.Basics.{if◌then◌otherwise◌, ◌and◌, joined}
 use Rattle.model.specs.Decimal.{digits_only, value, decimal}
 use Rattle.model.specs.Limits.{max_capacity}
 use Rattle.model.specs.Table.{Table, sizes}
@@ -32,12 +32,12 @@ in_front c (l ∷ ls) = (c ∷ l) ∷ ls
 -- the lines of the input: each up to a line feed, and the bytes after the last line feed, if any
 unfoldable pub lines_of : List ℕ → List (List ℕ)
 lines_of [] = []
-lines_of (c ∷ rest) = if eqb c 10 then [] ∷ lines_of rest else in_front c (lines_of rest)
+lines_of (c ∷ rest) = if eqb c 10 then [] ∷ lines_of rest otherwise in_front c (lines_of rest)
 
 -- the words of a line: what stands before, between and after its blanks
 unfoldable pub words_of : List ℕ → List (List ℕ)
 words_of [] = [] ∷ []
-words_of (c ∷ rest) = if eqb c 32 then [] ∷ words_of rest else in_front c (words_of rest)
+words_of (c ∷ rest) = if eqb c 32 then [] ∷ words_of rest otherwise in_front c (words_of rest)
 
 unfoldable pub same : List ℕ → List ℕ → Bool
 same [] [] = true
@@ -52,19 +52,19 @@ is_number w = leb 1 (length w) and leb (length w) 10 and digits_only w and leb (
 -- a word and its numbers
 unfoldable pub command : List (List ℕ) → Command
 command [] = Unreadable
-command (w ∷ []) = if same w (text "moves") then Moves else Unreadable
-command (w ∷ a ∷ []) = if same w (text "where") and is_number a then Where (value a) else Unreadable
+command (w ∷ []) = if same w (text "moves") then Moves otherwise Unreadable
+command (w ∷ a ∷ []) = if same w (text "where") and is_number a then Where (value a) otherwise Unreadable
 command (w ∷ a ∷ b ∷ []) =
     if not (is_number a and is_number b) then Unreadable
-    else if same w (text "fresh") then Fresh (value a) (value b)
-    else if same w (text "grow") then Grow (value a) (value b)
-    else if same w (text "at") then At (value a) (value b)
-    else Unreadable
+    otherwise if same w (text "fresh") then Fresh (value a) (value b)
+    otherwise if same w (text "grow") then Grow (value a) (value b)
+    otherwise if same w (text "at") then At (value a) (value b)
+    otherwise Unreadable
 command (w ∷ a ∷ b ∷ c ∷ rest) = Unreadable
 
 -- what a line says; one of more than 64 bytes is unreadable
 unfoldable pub read : List ℕ → Command
-read l = if leb (length l) 64 then command (words_of l) else Unreadable
+read l = if leb (length l) 64 then command (words_of l) otherwise Unreadable
 
 -- PRINTING
 

@@ -1,6 +1,6 @@
 -- Numbers in decimal, as the program reads and prints them and as the rack sheet has them. Text is a list of bytes. Assumes nothing.
 use Rattle.std.specs.Prelude.{ℕ, zero, suc, ◌+◌, ◌-◌, ◌*◌, ◌/◌, ◌%◌, Bool, true, List, [], ◌∷◌, ◌++◌, leb, ltb}
-use Rattle.model.specs.Basics.{if◌then◌else◌, ◌and◌}
+use Rattle.model.specs.Basics.{if◌then◌otherwise◌, ◌and◌}
 
 -- READING
 
@@ -21,7 +21,7 @@ value w = value_from 0 w
 -- the digits of n, at most k of them, the highest first
 unfoldable pub digits : ℕ → ℕ → List ℕ
 digits zero n = []
-digits (suc k) n = (if ltb n 10 then [] else digits k (n / 10)) ++ ((48 + n % 10) ∷ [])
+digits (suc k) n = (if ltb n 10 then [] otherwise digits k (n / 10)) ++ ((48 + n % 10) ∷ [])
 
 -- a number of up to ten digits in decimal
 unfoldable pub decimal : ℕ → List ℕ

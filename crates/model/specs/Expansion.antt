@@ -1,6 +1,6 @@
 -- Document 01, 'A fresh map and a growth': the growth. `t` is the old table and `s` the sizes B' and n'. Assumes nothing.
 use Rattle.std.specs.Prelude.{ℕ, zero, suc, ◌+◌, ◌-◌, Bool, not, List, [], ◌∷◌, ◌++◌, length, leb, ltb, eqb}
-use Rattle.model.specs.Basics.{if◌then◌else◌, all, count}
+use Rattle.model.specs.Basics.{if◌then◌otherwise◌, all, count}
 use Rattle.model.specs.Table.{Shape, Interval, interval, Table, bins}
 use Rattle.model.specs.Place.{held, bin}
 use Rattle.model.specs.Due.{due_of_block}
@@ -10,7 +10,7 @@ use Rattle.model.specs.declared.plan.Action.TheVariants.{Stay, Move, Split}
 
 -- the tops: one new block with top n' is added if n' > n
 unfoldable pub grown_tops : Table → Shape → List ℕ
-grown_tops t s = if ltb (bins t) s.bins then t.tops ++ (s.bins ∷ []) else t.tops
+grown_tops t s = if ltb (bins t) s.bins then t.tops ++ (s.bins ∷ []) otherwise t.tops
 
 -- what block j has, and what it is due after the growth
 unfoldable pub has : Table → ℕ → ℕ
@@ -51,8 +51,8 @@ unfoldable pub pieces : Table → Shape → ℕ → ℕ → ℕ → List Interva
 pieces t s b j zero = []
 pieces t s b j (suc n) =
     if eqb j (last_block t.intervals) then pieces t s b (suc j) n
-    else if eqb (gain t s j) 0 then pieces t s b (suc j) n
-    else interval (b + gain t s j) j (b - has t j) ∷ pieces t s (b + gain t s j) (suc j) n
+    otherwise if eqb (gain t s j) 0 then pieces t s b (suc j) n
+    otherwise interval (b + gain t s j) j (b - has t j) ∷ pieces t s (b + gain t s j) (suc j) n
 
 -- the last interval's block takes its buckets first, and its piece lengthens that interval; then come the other old
 -- blocks, and the new block, whose number is the highest
@@ -68,8 +68,8 @@ filled t s =
 unfoldable pub plan : ℕ → ℕ → Interval → ℕ → Plan
 plan due start i w =
     if leb (i.end - i.adjustment) due then record { action = Stay; moved = w }
-    else if leb due (start - i.adjustment) then record { action = Move (start - w); moved = w + (i.end - start) }
-    else record {
+    otherwise if leb due (start - i.adjustment) then record { action = Move (start - w); moved = w + (i.end - start) }
+    otherwise record {
       action = Split (due + i.adjustment) (due + i.adjustment - w);
       moved = w + (i.end - (due + i.adjustment));
     }
@@ -99,8 +99,8 @@ moved_after t s start (i ∷ rest) w = moved_after t s i.end rest (plan_for t s 
 unfoldable pub extended : ℕ → ℕ → ℕ → ℕ → List Interval → List Interval
 extended g b m w is =
     if eqb (last_block is) g then lengthened m is
-    else if eqb m 0 then is
-    else is ++ (interval (b + m) g (b - w) ∷ [])
+    otherwise if eqb m 0 then is
+    otherwise is ++ (interval (b + m) g (b - w) ∷ [])
 
 unfoldable pub drained : Table → Shape → List Interval
 drained t s =
@@ -115,7 +115,7 @@ expanded t s =
       buckets = s.buckets;
       capacity = t.capacity;
       tops = grown_tops t s;
-      intervals = if some_fall t s then drained t s else filled t s;
+      intervals = if some_fall t s then drained t s otherwise filled t s;
     }
 
 -- the number of moved buckets between two mappings: old buckets whose bin differs

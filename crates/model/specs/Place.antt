@@ -1,13 +1,13 @@
 -- Document 01, 'Where a bucket is', and the drawer count. Assumes nothing.
 use Rattle.std.specs.Prelude.{ℕ, ◌+◌, ◌-◌, ◌/◌, ◌%◌, not, List, [], ◌∷◌, map, ltb, eqb}
-use Rattle.model.specs.Basics.{if◌then◌else◌, count, joined}
+use Rattle.model.specs.Basics.{if◌then◌otherwise◌, count, joined}
 use Rattle.model.specs.Limits.{label}
 use Rattle.model.specs.Table.{Interval, interval, Table, first_bin, block_bins}
 
 -- the interval of bucket x: the first one that ends past x
 unfoldable pub interval_of : List Interval → ℕ → Interval
 interval_of [] x = interval 0 0 0
-interval_of (i ∷ rest) x = if ltb x i.end then i else interval_of rest x
+interval_of (i ∷ rest) x = if ltb x i.end then i otherwise interval_of rest x
 
 unfoldable pub block_of : Table → ℕ → ℕ
 block_of t x = (interval_of t.intervals x).block

@@ -2,7 +2,7 @@
 -- file stand in Saved, that of a sheet in Sheet, those of the program's lines in Console, those of the mover in crate `mover`, the order of a call's
 -- tests in Calls. Assumes nothing.
 use Rattle.std.specs.Prelude.{ℕ, ◌+◌, ◌*◌, Bool, not, List, [], ◌∷◌, length, get_or, leb, ltb, eqb}
-use Rattle.model.specs.Basics.{if◌then◌else◌, ◌and◌, ◌or◌, all, before}
+use Rattle.model.specs.Basics.{if◌then◌otherwise◌, ◌and◌, ◌or◌, all, before}
 use Rattle.model.specs.Limits.{max_buckets, max_capacity, label, max_bins, max_blocks, max_intervals, max_expansions}
 use Rattle.model.specs.Table.{Shape, Table, bins, shape, Arrays, table}
 use Rattle.model.specs.Place.{held, others, bin_size}
@@ -17,7 +17,7 @@ Test = ℕ × Bool
 -- the number of the first test that holds, or 0: no refusal
 unfoldable pub first : List Test → ℕ
 first [] = 0
-first (t ∷ rest) = if t.1 then t.0 else first rest
+first (t ∷ rest) = if t.1 then t.0 otherwise first rest
 
 -- the refusal r that a search itself answers, as a test: 0 is none
 unfoldable pub searched : ℕ → List Test

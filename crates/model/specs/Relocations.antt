@@ -1,6 +1,6 @@
 -- Document 01, 'Move list, placing, finding, keeping': the move list, from the mappings before and after alone. Assumes nothing.
 use Rattle.std.specs.Prelude.{ℕ, ◌/◌, List, [], ◌∷◌, take, drop}
-use Rattle.model.specs.Basics.{if◌then◌else◌, from, joined}
+use Rattle.model.specs.Basics.{if◌then◌otherwise◌, from, joined}
 use Rattle.model.specs.Table.{Table}
 use Rattle.model.specs.Place.{bin, position}
 use Rattle.model.specs.Expansion.{differs}
@@ -11,7 +11,7 @@ row t u x = x ∷ bin t x ∷ position t x ∷ bin u x ∷ position u x ∷ []
 
 -- the row of bucket x if it moved, else none
 unfoldable pub row_if : Table → Table → ℕ → List (List ℕ)
-row_if t u x = if differs t u x then row t u x ∷ [] else []
+row_if t u x = if differs t u x then row t u x ∷ [] otherwise []
 
 -- the rows of all old buckets, rising by bucket
 unfoldable pub rows : Table → Table → List (List ℕ)

@@ -1,7 +1,7 @@
 -- Document 01, 'Move list, placing, finding, keeping': placing and finding by their searches over the intervals. Each search
 -- answers an enum, and one definition gives document 01's number and values for each of its cases. Assumes nothing.
 use Rattle.std.specs.Prelude.{ℕ, suc, ◌+◌, ◌-◌, ◌*◌, Bool, List, [], ◌∷◌, get_or, leb, ltb, eqb}
-use Rattle.model.specs.Basics.{if◌then◌else◌, ◌and◌}
+use Rattle.model.specs.Basics.{if◌then◌otherwise◌, ◌and◌}
 use Rattle.model.specs.Limits.{label}
 use Rattle.model.specs.Table.{Interval, interval, Table, first_bin, block_bins}
 use Rattle.model.specs.Place.{rank, bin_of, position_of}
@@ -22,11 +22,11 @@ interval_at t i = get_or t.intervals i (interval 0 0 0)
 -- the place of bucket x's interval: the first one that ends past x
 unfoldable pub index_of : List Interval → ℕ → ℕ
 index_of [] x = 0
-index_of (i ∷ rest) x = if ltb x i.end then 0 else suc (index_of rest x)
+index_of (i ∷ rest) x = if ltb x i.end then 0 otherwise suc (index_of rest x)
 
 -- what the search for a bucket's interval answers: its place and the bucket's rank, or that the bucket is not below B
 unfoldable pub located : Table → ℕ → Located
-located t x = if bucket_past t x then Outside else At (index_of t.intervals x) (rank t x)
+located t x = if bucket_past t x then Outside otherwise At (index_of t.intervals x) (rank t x)
 
 -- its number and values: the bin and position of the rank in the interval's block, or 6 and zeros
 unfoldable pub place_of : Table → Located → PlaceReply
@@ -47,7 +47,7 @@ place_at t x = place_of t (located t x)
 -- the block of bin y: the first whose top is past y
 unfoldable pub block_of_bin : List ℕ → ℕ → ℕ
 block_of_bin [] y = 0
-block_of_bin (top ∷ rest) y = if ltb y top then 0 else suc (block_of_bin rest y)
+block_of_bin (top ∷ rest) y = if ltb y top then 0 otherwise suc (block_of_bin rest y)
 
 -- the rank that belongs at position p of bin y, past its label
 unfoldable pub rank_at : List ℕ → ℕ → ℕ → ℕ
@@ -61,7 +61,7 @@ includes s i j r = eqb i.block j and leb s (r + i.adjustment) and ltb (r + i.adj
 -- or that there is none. The intervals here start at bucket s, and the first of them has place k.
 unfoldable pub holder : List Interval → ℕ → ℕ → ℕ → ℕ → Holder
 holder [] s k j r = Nothing
-holder (i ∷ rest) s k j r = if includes s i j r then In k else holder rest i.end (suc k) j r
+holder (i ∷ rest) s k j r = if includes s i j r then In k otherwise holder rest i.end (suc k) j r
 
 -- its number and value where r is the rank: the bucket, which is the rank plus the interval's adjustment, or 7 and 0
 unfoldable pub found_of : Table → ℕ → Holder → FindReply
@@ -71,7 +71,7 @@ found_of t r Nothing = record { refusal = 7; bucket = 0 }
 -- what the search for the rank of position p of bin y answers; at a position of the label there is none
 unfoldable pub held_at : Table → ℕ → ℕ → Holder
 held_at t y p =
-    if labelled p then Nothing else holder t.intervals 0 0 (block_of_bin t.tops y) (rank_at t.tops y p)
+    if labelled p then Nothing otherwise holder t.intervals 0 0 (block_of_bin t.tops y) (rank_at t.tops y p)
 
 -- what finding at position p of bin y answers, where y is below n
 unfoldable pub found_at : Table → ℕ → ℕ → FindReply

@@ -1,6 +1,6 @@
 -- What is proved of the rack sheet. Each claim is a type. Assumes nothing.
 use Rattle.std.specs.Prelude.{ℕ, zero, suc, ◌+◌, ◌-◌, ◌*◌, ◌^◌, ◌≤◌, ◌<◌, ◌≡◌, ◌↔◌, true, List, [], ◌∷◌, length, get_or, take, drop, replicate, eqb}
-use Rattle.model.specs.Basics.{if◌then◌else◌, before}
+use Rattle.model.specs.Basics.{if◌then◌otherwise◌, before}
 use Rattle.model.specs.Decimal.{digits_only, value}
 use Rattle.model.specs.Limits.{max_capacity}
 use Rattle.model.specs.Table.{sizes, Arrays, table}
@@ -19,7 +19,7 @@ use Rattle.model.specs.declared.table.Header.{Header}
 -- a field from its first character on that is not a blank
 unfoldable pub unblanked : List ℕ → List ℕ
 unblanked [] = []
-unblanked (c ∷ cs) = if eqb c 32 then unblanked cs else c ∷ cs
+unblanked (c ∷ cs) = if eqb c 32 then unblanked cs otherwise c ∷ cs
 
 -- its number: the blanks skipped, the digits read as a decimal
 unfoldable pub field_read : List ℕ → ℕ

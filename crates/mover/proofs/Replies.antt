@@ -7,7 +7,7 @@ use mathlib.Core.List.{List, [], ◌∷◌}
 use native.Mathlib.Omega.{arith}
 use lib.ListN.{get_or, set}
 use borrow.Author.Tests.{lt-ltb, le-ltb}
-use Rattle.model.specs.Basics.{if◌then◌else◌}
+use Rattle.model.specs.Basics.{if◌then◌otherwise◌}
 use Rattle.model.specs.Refusal.{first, order_past}
 use Rattle.model.specs.Calls.{table_tests, growth_tests}
 use Rattle.model.specs.declared.reply.CarryReply.{CarryReply}
@@ -83,7 +83,7 @@ module _ (g : Growth) (ws : List ℕ) (m : ℕ) where
 module _ (g : Growth) (ws : List ℕ) (m : ℕ) (ok : carry_refusal g ws m ≡ 0) where
   -- below the total it does the row
   pub words_copied : m < total g → carry_words g ws m ≡ copied g m ws
-  unfolding carry_words if◌then◌else◌
+  unfolding carry_words if◌then◌otherwise◌
   words_copied l = accepted _ _ _ ok ∙ rw (lt-ltb m (total g) l)
 
   pub words_more : m < total g → carry_words g ws m ≡ set ws (target g m) (get_or ws (source g m) 0)
@@ -91,16 +91,16 @@ module _ (g : Growth) (ws : List ℕ) (m : ℕ) (ok : carry_refusal g ws m ≡ 0
   words_more l = words_copied l
 
   pub reply_more : m < total g → carry_reply g ws m ≡ record { refusal = 0; mark = m + 1; finished = 0 }
-  unfolding carry_reply if◌then◌else◌
+  unfolding carry_reply if◌then◌otherwise◌
   reply_more l = accepted _ _ _ ok ∙ rw (lt-ltb m (total g) l) refl
 
   -- and at the total nothing
   pub words_end : total g ≤ m → carry_words g ws m ≡ ws
-  unfolding carry_words if◌then◌else◌
+  unfolding carry_words if◌then◌otherwise◌
   words_end l = accepted _ _ _ ok ∙ rw (le-ltb m (total g) l)
 
   pub reply_end : total g ≤ m → carry_reply g ws m ≡ record { refusal = 0; mark = m; finished = 1 }
-  unfolding carry_reply if◌then◌else◌
+  unfolding carry_reply if◌then◌otherwise◌
   reply_end l = accepted _ _ _ ok ∙ rw (le-ltb m (total g) l) refl
 
   -- so where the code has the numbers of the reply as z

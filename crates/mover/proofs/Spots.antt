@@ -8,7 +8,7 @@ use native.Mathlib.Nat.{suc-mul, mul-le-mul_right, div-add-mod'}
 use native.Mathlib.Omega.{arith}
 use lib.ListN.{length, get_or}
 use borrow.Author.Tests.{ltb-false, le-ltb, eqb-true, not-false}
-use Rattle.model.specs.Basics.{if◌then◌else◌, bit, count}
+use Rattle.model.specs.Basics.{if◌then◌otherwise◌, bit, count}
 use Rattle.model.specs.Limits.{label}
 use Rattle.model.specs.Table.{bins, table}
 use Rattle.model.specs.Place.{bin, position}
@@ -72,7 +72,7 @@ word_once p y q z r l k e =
 
 -- too few words: 40, whatever the mark is
 pub forty : (g : Growth) (ws : List ℕ) (m : ℕ) → words_short g ws ≡ true → first (carry_tests g ws m) ≡ 40
-unfolding carry_tests first if◌then◌else◌
+unfolding carry_tests first if◌then◌otherwise◌
 forty g ws m e = rw e refl
 
 pub accepted_ready : (g : Growth) (ws : List ℕ) (m : ℕ) → carry_refusal g ws m ≡ 0 → Ready g ws × (m ≤ total g)

@@ -1,6 +1,6 @@
 -- Document 02, S-7, 'The mover': one call. Assumes nothing.
 use Rattle.std.specs.Prelude.{ℕ, ◌+◌, ◌*◌, Bool, List, [], ◌∷◌, ◌++◌, length, get_or, set, ltb}
-use Rattle.model.specs.Basics.{if◌then◌else◌}
+use Rattle.model.specs.Basics.{if◌then◌otherwise◌}
 use Rattle.model.specs.Table.{Shape, Table, Arrays, table}
 use Rattle.model.specs.Refusal.{Test, first, order_past}
 use Rattle.model.specs.Expansion.{expanded}
@@ -71,9 +71,9 @@ carry_refusal g ws m =
 unfoldable pub carry_reply : Growth → List ℕ → ℕ → CarryReply
 carry_reply g ws m =
     answer (carry_refusal g ws m)
-    (if ltb m (total g) then record { refusal = 0; mark = m + 1; finished = 0 } else record { refusal = 0; mark = m; finished = 1 })
+    (if ltb m (total g) then record { refusal = 0; mark = m + 1; finished = 0 } otherwise record { refusal = 0; mark = m; finished = 1 })
     (record { refusal = carry_refusal g ws m; mark = 0; finished = 0 })
 
 -- one row done, or none
 unfoldable pub carry_words : Growth → List ℕ → ℕ → List ℕ
-carry_words g ws m = answer (carry_refusal g ws m) (if ltb m (total g) then copied g m ws else ws) ws
+carry_words g ws m = answer (carry_refusal g ws m) (if ltb m (total g) then copied g m ws otherwise ws) ws

@@ -8,12 +8,12 @@ use mathlib.Core.List.{List}
 use native.Mathlib.Omega.{arith}
 use lib.ListN.{length, get_or, set, length-set}
 use lib.Seq.{get_or-set_same, get_or-set_other, set-set}
-use Rattle.model.specs.Basics.{if◌then◌else◌}
+use Rattle.model.specs.Basics.{if◌then◌otherwise◌}
 use Rattle.model.proofs.Counts.{bit_cases, below_or}
 
 -- the m-th copy, where c says that there is one
 unfoldable pub step : (ℕ → ℕ) → (ℕ → ℕ) → (ℕ → Bool) → ℕ → List ℕ → List ℕ
-step src dst c m zs = if c m then set zs (dst m) (get_or zs (src m) 0) else zs
+step src dst c m zs = if c m then set zs (dst m) (get_or zs (src m) 0) otherwise zs
 
 -- the list after the first m
 unfoldable pub after : (ℕ → ℕ) → (ℕ → ℕ) → (ℕ → Bool) → List ℕ → ℕ → List ℕ
@@ -24,7 +24,7 @@ after src dst c ws (suc m) = step src dst c m (after src dst c ws m)
 pub step_same
     : (src dst : ℕ → ℕ) (c d : ℕ → Bool) (m : ℕ) (zs : List ℕ) → c m ≡ d m → step src dst c m zs ≡ step src dst d m zs
 unfolding step
-step_same src dst c d m zs e = ap (λ b. if b then set zs (dst m) (get_or zs (src m) 0) else zs) e
+step_same src dst c d m zs e = ap (λ b. if b then set zs (dst m) (get_or zs (src m) 0) otherwise zs) e
 
 -- n copies in a list as long
 pub record Apart (src dst : ℕ → ℕ) (n long : ℕ) : Type 0 where
@@ -44,11 +44,11 @@ Unwritten dst c n i = (q : ℕ) → q < n → c q ≡ true → i ≡ dst q → �
 
 module _ (src dst : ℕ → ℕ) (c : ℕ → Bool) (m : ℕ) (zs : List ℕ) where
   pub step_copy : c m ≡ true → step src dst c m zs ≡ set zs (dst m) (get_or zs (src m) 0)
-  unfolding step if◌then◌else◌
+  unfolding step if◌then◌otherwise◌
   step_copy e = rw e refl
 
   pub step_none : c m ≡ false → step src dst c m zs ≡ zs
-  unfolding step if◌then◌else◌
+  unfolding step if◌then◌otherwise◌
   step_none e = rw e refl
 
 module _ (src dst : ℕ → ℕ) (c : ℕ → Bool) (n : ℕ) (ws : List ℕ) (a : Apart src dst n (length ws)) where

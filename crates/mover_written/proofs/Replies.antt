@@ -7,7 +7,7 @@ use mathlib.Core.List.{List, [], ◌∷◌}
 use native.Mathlib.Omega.{arith}
 use lib.ListN.{get_or, set}
 use borrow.Author.Tests.{ltb-false, lt-ltb, le-ltb}
-use Rattle.model.specs.Basics.{if◌then◌else◌, ◌and◌}
+use Rattle.model.specs.Basics.{if◌then◌otherwise◌, ◌and◌}
 use Rattle.model.specs.Refusal.{first, order_past}
 use Rattle.model.specs.Calls.{table_tests, growth_tests}
 use Rattle.model.specs.declared.reply.CarryReply.{CarryReply}
@@ -118,25 +118,25 @@ module _ (g : Growth) (told : Told) (ws : List ℕ) (m : ℕ) where
 
 module _ (g : Growth) (told : Told) (ws : List ℕ) (m : ℕ) (ok : carry_refusal g told ws m ≡ 0) where
   -- below the total it does the row
-  words_row : carry_words g told ws m ≡ (if copies g told m then copied g m ws else ws)
+  words_row : carry_words g told ws m ≡ (if copies g told m then copied g m ws otherwise ws)
   unfolding carry_words
   words_row = accepted _ _ _ ok
 
   pub words_more : m < total g → carry_words g told ws m ≡ step (source g) (target g) (λ q. is_written told (bucket_at g q)) m ws
   unfolding copied put step
-  words_more l = words_row ∙ ap (λ b. if b then copied g m ws else ws) (copies_below g told m l)
+  words_more l = words_row ∙ ap (λ b. if b then copied g m ws otherwise ws) (copies_below g told m l)
 
   pub reply_more : m < total g → carry_reply g told ws m ≡ record { refusal = 0; mark = m + 1; finished = 0 }
-  unfolding carry_reply if◌then◌else◌
+  unfolding carry_reply if◌then◌otherwise◌
   reply_more l = accepted _ _ _ ok ∙ rw (lt-ltb m (total g) l) refl
 
   -- and at the total nothing
   pub words_end : total g ≤ m → carry_words g told ws m ≡ ws
-  unfolding if◌then◌else◌
-  words_end l = words_row ∙ ap (λ b. if b then copied g m ws else ws) (copies_end g told m l)
+  unfolding if◌then◌otherwise◌
+  words_end l = words_row ∙ ap (λ b. if b then copied g m ws otherwise ws) (copies_end g told m l)
 
   pub reply_end : total g ≤ m → carry_reply g told ws m ≡ record { refusal = 0; mark = m; finished = 1 }
-  unfolding carry_reply if◌then◌else◌
+  unfolding carry_reply if◌then◌otherwise◌
   reply_end l = accepted _ _ _ ok ∙ rw (le-ltb m (total g) l) refl
 
   -- so where the code has the numbers of the reply as z

@@ -8,7 +8,7 @@ use native.Mathlib.Nat.{suc-mul, mul-le-mul_right, div-add-mod'}
 use native.Mathlib.Omega.{arith}
 use lib.ListN.{length, get_or}
 use borrow.Author.Tests.{ltb-false, le-ltb, eqb-true, not-false}
-use Rattle.model.specs.Basics.{if◌then◌else◌}
+use Rattle.model.specs.Basics.{if◌then◌otherwise◌}
 use Rattle.model.specs.Limits.{label}
 use Rattle.model.specs.Table.{bins, table}
 use Rattle.model.specs.Place.{bin, position}
@@ -91,7 +91,7 @@ enough_told g (bits ws) l = le-ltb (64 * length ws) g.header.buckets l
 
 -- too few words: 40, whatever the bits and the mark are
 pub forty : (g : Growth) (told : Told) (ws : List ℕ) (m : ℕ) → words_short g ws ≡ true → first (carry_tests g told ws m) ≡ 40
-unfolding carry_tests first if◌then◌else◌
+unfolding carry_tests first if◌then◌otherwise◌
 forty g told ws m e = rw e refl
 
 pub accepted_ready

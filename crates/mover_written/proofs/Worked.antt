@@ -1,6 +1,6 @@
 -- The growth that is worked out, computed by the checker. Assumes nothing.
 use mathlib.Core.Path.{refl}
-use Rattle.model.specs.Basics.{if◌then◌else◌, ◌and◌, ◌or◌, bit, sum, count, all, from, joined, before}
+use Rattle.model.specs.Basics.{if◌then◌otherwise◌, ◌and◌, ◌or◌, bit, sum, count, all, from, joined, before}
 use Rattle.model.specs.Table.{bins, shape, first_bin, block_bins, table}
 use Rattle.model.specs.Place.{interval_of, block_of, rank, bin, position, held, others, size, bin_size}
 use Rattle.model.specs.Due.{due, due_of_bins, due_of_block}
@@ -20,7 +20,7 @@ use Rattle.mover_written.specs.Claims.{worked, rack, CarryWorked}
 use Rattle.mover_written.specs.WrittenClaims.{CountWorked}
 
 pub carry_worked_lem : CarryWorked
-unfolding if◌then◌else◌ ◌and◌ ◌or◌ bit sum count all from joined before bins shape first_bin block_bins table interval_of
+unfolding if◌then◌otherwise◌ ◌and◌ ◌or◌ bit sum count all from joined before bins shape first_bin block_bins table interval_of
     block_of rank bin position held others size bin_size due due_of_bins due_of_block first outside rises header_outside
     arrays_short tops_wrong ends_wrong blocks_wrong holdings_wrong adjustment_of adjustments_wrong size_outside few_buckets shrinks
     unchanged blocks_full overfull some_overfull overfills capacity_outside capacity_wrong grown_tops has due_after some_fall
@@ -30,7 +30,7 @@ unfolding if◌then◌else◌ ◌and◌ ◌or◌ bit sum count all from joined b
 carry_worked_lem = (refl, refl, refl, refl)
 
 pub count_worked_lem : CountWorked
-unfolding if◌then◌else◌ ◌and◌ ◌or◌ bit sum count all from joined before bins shape first_bin block_bins table interval_of
+unfolding if◌then◌otherwise◌ ◌and◌ ◌or◌ bit sum count all from joined before bins shape first_bin block_bins table interval_of
     block_of rank bin position held others size bin_size due due_of_bins due_of_block first outside rises header_outside
     arrays_short tops_wrong ends_wrong blocks_wrong holdings_wrong adjustment_of adjustments_wrong size_outside few_buckets shrinks
     unchanged blocks_full overfull some_overfull overfills capacity_outside capacity_wrong grown_tops has due_after some_fall

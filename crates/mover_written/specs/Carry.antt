@@ -1,6 +1,6 @@
 -- Document 02, S-7, 'The mover', and S-8, blank buckets: one call. Assumes nothing.
 use Rattle.std.specs.Prelude.{ℕ, ◌+◌, ◌*◌, Bool, true, false, List, [], ◌∷◌, ◌++◌, length, get_or, set, ltb}
-use Rattle.model.specs.Basics.{if◌then◌else◌, ◌and◌}
+use Rattle.model.specs.Basics.{if◌then◌otherwise◌, ◌and◌}
 use Rattle.model.specs.Table.{Shape, Table, Arrays, table}
 use Rattle.model.specs.Refusal.{Test, first, order_past}
 use Rattle.model.specs.Expansion.{expanded}
@@ -95,9 +95,9 @@ carry_refusal g told ws m =
 unfoldable pub carry_reply : Growth → Told → List ℕ → ℕ → CarryReply
 carry_reply g told ws m =
     answer (carry_refusal g told ws m)
-    (if ltb m (total g) then record { refusal = 0; mark = m + 1; finished = 0 } else record { refusal = 0; mark = m; finished = 1 })
+    (if ltb m (total g) then record { refusal = 0; mark = m + 1; finished = 0 } otherwise record { refusal = 0; mark = m; finished = 1 })
     (record { refusal = carry_refusal g told ws m; mark = 0; finished = 0 })
 
 -- one row's copy, or none
 unfoldable pub carry_words : Growth → Told → List ℕ → ℕ → List ℕ
-carry_words g told ws m = answer (carry_refusal g told ws m) (if copies g told m then copied g m ws else ws) ws
+carry_words g told ws m = answer (carry_refusal g told ws m) (if copies g told m then copied g m ws otherwise ws) ws

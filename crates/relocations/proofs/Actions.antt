@@ -5,7 +5,7 @@ use mathlib.Core.List.{List, [], append-nil}
 use native.Mathlib.Omega.{arith}
 use lib.Seq.{drop-nil, take-nil}
 use borrow.Author.Tests.{eq-eqb, ne_eqb}
-use Rattle.model.specs.Basics.{if◌then◌else◌, from}
+use Rattle.model.specs.Basics.{if◌then◌otherwise◌, from}
 use Rattle.model.specs.Table.{Interval, interval}
 use Rattle.model.specs.Expansion.{parts}
 use Rattle.model.specs.Relocations.{page}
@@ -26,19 +26,19 @@ parts_of a end old b g = parts a (interval end b old.adjustment) g []
 module _ (a : Action) (start end : ℕ) (old : Placing) (f d b g : ℕ) (l : b < g) where
   -- none of one that stays; all of one that moves; those of the right part of one that splits
   pub rows_stay : a ≡ Stay → part_rows g old f d start (parts_of a end old b g) ≡ []
-  unfolding parts part_rows if◌then◌else◌
+  unfolding parts part_rows if◌then◌otherwise◌
   rows_stay e = rw (e, ne_eqb b g (λ q. omega arith)) refl
 
   pub rows_move
       : (c : ℕ) → a ≡ Move c
       → part_rows g old f d start (parts_of a end old b g) ≡ from (placed_row old (placing f d c)) start (end - start)
-  unfolding parts part_rows if◌then◌else◌
+  unfolding parts part_rows if◌then◌otherwise◌
   rows_move c e = rw (e, eq-eqb g g refl) (append-nil _)
 
   pub rows_split
       : (k c : ℕ) → a ≡ Split k c
       → part_rows g old f d start (parts_of a end old b g) ≡ from (placed_row old (placing f d c)) k (end - k)
-  unfolding parts part_rows if◌then◌else◌
+  unfolding parts part_rows if◌then◌otherwise◌
   rows_split k c e = rw (e, ne_eqb b g (λ q. omega arith), eq-eqb g g refl) (append-nil _)
 
 -- a page with none of them

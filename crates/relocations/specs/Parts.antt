@@ -1,6 +1,6 @@
 -- The rows of the parts of an interval that move, and what a page has of them. Assumes nothing.
 use Rattle.std.specs.Prelude.{ℕ, ◌-◌, ◌*◌, ◌≤◌, ◌<◌, List, [], ◌∷◌, ◌++◌, ◌≡◌, true, eqb, length}
-use Rattle.model.specs.Basics.{if◌then◌else◌, from}
+use Rattle.model.specs.Basics.{if◌then◌otherwise◌, from}
 use Rattle.model.specs.Limits.{max_buckets}
 use Rattle.model.specs.Table.{Shape, Interval, interval, Table}
 use Rattle.model.specs.Refusal.{first}
@@ -18,7 +18,7 @@ use Rattle.rows.specs.Spans.{placed_row, with_rows}
 unfoldable pub part_rows : ℕ → Placing → ℕ → ℕ → ℕ → List Interval → List (List ℕ)
 part_rows g old f d start [] = []
 part_rows g old f d start (i ∷ rest) =
-    (if eqb i.block g then from (placed_row old (placing f d i.adjustment)) start (i.end - start) else [])
+    (if eqb i.block g then from (placed_row old (placing f d i.adjustment)) start (i.end - start) otherwise [])
     ++ part_rows g old f d i.end rest
 
 -- a buffer with those of the rows rs written into it that the page from order number q on has, where rs come after w others

@@ -4,7 +4,7 @@ use mathlib.Core.Path.{◌≡◌, refl, sym, ◌∙◌, ap, ap₂}
 use mathlib.Core.List.{List, ◌++◌, append-nil}
 use native.Mathlib.Decide.{ℕ_discrete}
 use native.Mathlib.Omega.{arith}
-use Rattle.model.specs.Basics.{if◌then◌else◌, joined}
+use Rattle.model.specs.Basics.{if◌then◌otherwise◌, joined}
 use Rattle.model.specs.Limits.{max_capacity}
 use Rattle.model.specs.Initial.{initial}
 use Rattle.model.specs.Expansion.{expanded}
@@ -53,7 +53,7 @@ abbrev spoken : Session → Answer → List ℕ
 spoken s a = shown a ++ listed (is_list a) 0 s
 
 accepted_spoken : (s : Session) (c : Command) → spoken (accepted s c) (accepted_answer s c) ≡ answer_text s (accepted_answer s c)
-unfolding shown is_list listed if◌then◌else◌ answer_text moves_of move_text joined accepted accepted_answer
+unfolding shown is_list listed if◌then◌otherwise◌ answer_text moves_of move_text joined accepted accepted_answer
 accepted_spoken s (Fresh b n) = append-nil _
 accepted_spoken s (Grow b n) = append-nil _
 accepted_spoken s (Where x) = append-nil _
@@ -62,7 +62,7 @@ accepted_spoken s Moves = refl
 accepted_spoken s Unreadable = append-nil _
 
 refused_spoken : (s : Session) (r : ℕ) → spoken s (says.Refused r) ≡ answer_text s (says.Refused r)
-unfolding shown is_list listed if◌then◌else◌ answer_text
+unfolding shown is_list listed if◌then◌otherwise◌ answer_text
 refused_spoken s r = append-nil _
 
 pub session_spoken : SessionSpoken

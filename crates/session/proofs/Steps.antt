@@ -8,7 +8,7 @@ use native.Mathlib.Decide.{ℕ_discrete}
 use native.Mathlib.Omega.{arith}
 use lib.Dec.{eqb}
 use borrow.Author.Tests.{eq-eqb, ne_eqb}
-use Rattle.model.specs.Basics.{if◌then◌else◌, ◌and◌}
+use Rattle.model.specs.Basics.{if◌then◌otherwise◌, ◌and◌}
 use Rattle.model.specs.Limits.{max_capacity}
 use Rattle.model.specs.Table.{Table, Arrays, header, written, sizes}
 use Rattle.model.specs.Refusal.{first}
@@ -100,11 +100,11 @@ module _ (m : Maps) where
   pub map_refusal
       : (c : Command) → is_unreadable c ≡ false → is_empty m.state.stage ≡ false
       → command_refusal (session m) c ≡ first (command_tests (map_of m) c)
-  unfolding command_refusal line_tests session first if◌then◌else◌ ◌and◌
+  unfolding command_refusal line_tests session first if◌then◌otherwise◌ ◌and◌
   map_refusal c u e = rw (u, no_map_lem m.state.stage _ _, e, map_current m.state.stage _ _ e)
 
   pub fresh_refusal_lem : (b n : ℕ) → command_refusal (session m) (Fresh b n) ≡ first (fresh_tests (sizes b n) max_capacity)
-  unfolding command_refusal line_tests is_fresh is_unreadable command_tests first if◌then◌else◌
+  unfolding command_refusal line_tests is_fresh is_unreadable command_tests first if◌then◌otherwise◌
   fresh_refusal_lem b n = rw (and_false (no_map (session m)))
 
   -- STEPS
@@ -113,7 +113,7 @@ module _ (m : Maps) where
   pub refused_step
       : (c : Command) (r : ℕ) (z : Step) → z ≡ record { state = m.state; flip = false; answer = says.Refused r }
       → command_refusal (session m) c ≡ r → (r ≡ 0 → ⊥) → Stepped m c z m.this m.other
-  unfolding command_answer flips next answer if◌then◌else◌ ◌and◌
+  unfolding command_answer flips next answer if◌then◌otherwise◌ ◌and◌
   refused_step c r z w e n =
       let no = ne_eqb r 0 n in
       subst (λ z. Stepped m c z m.this m.other) (sym w) (record { answer = rw (e, no); flip = rw (e, no); maps = rw (e, no) })
@@ -123,7 +123,7 @@ module _ (m : Maps) where
       : (c : Command) (a : Answer) (z : Step) → z ≡ record { state = m.state; flip = false; answer = a }
       → command_refusal (session m) c ≡ 0 → is_grow c ≡ false → performed m c ≡ m → a ≡ accepted_answer (session m) c
       → Stepped m c z m.this m.other
-  unfolding command_answer flips next answer if◌then◌else◌
+  unfolding command_answer flips next answer if◌then◌otherwise◌
   told_step c a z w e g p k =
       let yes = eq-eqb (command_refusal (session m) c) 0 e in
       subst (λ z. Stepped m c z m.this m.other) (sym w) (record {
@@ -173,7 +173,7 @@ module _ (m : Maps) where
         answer = says.Table 0 1;
       })
       left m.other
-  unfolding command_answer flips next answer if◌then◌else◌ accepted_answer is_grow performed initial header
+  unfolding command_answer flips next answer if◌then◌otherwise◌ accepted_answer is_grow performed initial header
   fresh_step b n p r left q z w c =
       let e : command_refusal (session m) (Fresh b n) ≡ 0 = fresh_refusal_lem b n ∙ sym q ∙ z in
       let yes = eq-eqb (command_refusal (session m) (Fresh b n)) 0 e in
@@ -222,7 +222,7 @@ module _ (m : Maps) where
             answer = says.Table z.moved z.header.interval_count;
           })
           m.this left
-      unfolding command_answer flips next answer if◌then◌else◌ ◌and◌ accepted_answer is_grow performed header
+      unfolding command_answer flips next answer if◌then◌otherwise◌ ◌and◌ accepted_answer is_grow performed header
       grow_step q =
           let zero : command_refusal (session m) (Grow b n) ≡ 0 = grow_refusal_lem ∙ q in
           let yes = eq-eqb (command_refusal (session m) (Grow b n)) 0 zero in
@@ -268,8 +268,8 @@ module _ (m : Maps) where
 
 -- an accepted command turns the tables just where it is a growth
 performed_flipped
-    : (m : Maps) (c : Command) → (performed m c).state.flipped ≡ (if is_grow c then not m.state.flipped else m.state.flipped)
-unfolding performed is_grow if◌then◌else◌
+    : (m : Maps) (c : Command) → (performed m c).state.flipped ≡ (if is_grow c then not m.state.flipped otherwise m.state.flipped)
+unfolding performed is_grow if◌then◌otherwise◌
 performed_flipped m (Fresh b n) = refl
 performed_flipped m (Grow b n) = refl
 performed_flipped m (Where x) = refl
@@ -279,8 +279,8 @@ performed_flipped m Unreadable = refl
 
 next_flipped
     : (m : Maps) (c : Command)
-    → (next m c).state.flipped ≡ (if flips (session m) c then not m.state.flipped else m.state.flipped)
-unfolding next flips answer if◌then◌else◌ ◌and◌
+    → (next m c).state.flipped ≡ (if flips (session m) c then not m.state.flipped otherwise m.state.flipped)
+unfolding next flips answer if◌then◌otherwise◌ ◌and◌
 next_flipped m c =
     ⊎_elim
     (λ y. rw y.0 (performed_flipped m c))
@@ -290,14 +290,14 @@ next_flipped m c =
 -- so does its step
 pub step_flipped
     : (m : Maps) (c : Command) (d : Step) (a b : Arrays) → Stepped m c d a b
-    → d.state.flipped ≡ (if d.flip then not m.state.flipped else m.state.flipped)
-unfolding if◌then◌else◌
+    → d.state.flipped ≡ (if d.flip then not m.state.flipped otherwise m.state.flipped)
+unfolding if◌then◌otherwise◌
 step_flipped m c d a b s =
     same d.flip
     ∙ ap (λ (n : Maps). n.state.flipped) s.maps
     ∙ next_flipped m c
-    ∙ ap (λ f. if f then not m.state.flipped else m.state.flipped) (sym s.flip)
+    ∙ ap (λ f. if f then not m.state.flipped otherwise m.state.flipped) (sym s.flip)
   where
-    same : (f : Bool) → d.state.flipped ≡ (if f then maps d.state b a else maps d.state a b).state.flipped
+    same : (f : Bool) → d.state.flipped ≡ (if f then maps d.state b a otherwise maps d.state a b).state.flipped
     same true = refl
     same false = refl

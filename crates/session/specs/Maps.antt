@@ -1,6 +1,6 @@
 -- Document 01, 'The program rackmap': a session as the program holds it, two tables in arrays. Assumes nothing.
 use Rattle.std.specs.Prelude.{ℕ, ◌≡◌, Bool, true, false, not, List, [], drop, eqb}
-use Rattle.model.specs.Basics.{if◌then◌else◌, ◌and◌}
+use Rattle.model.specs.Basics.{if◌then◌otherwise◌, ◌and◌}
 use Rattle.model.specs.Limits.{max_capacity}
 use Rattle.model.specs.Table.{Shape, Table, Arrays, table, header, written, sizes}
 use Rattle.model.specs.Refusal.{first, room_short}
@@ -101,13 +101,13 @@ is_list says.Moves = true
 
 -- those lines from row q on, where they follow
 unfoldable pub listed : Bool → ℕ → Session → List ℕ
-listed follow q s = if follow then move_text (drop q (moves_of s)) else []
+listed follow q s = if follow then move_text (drop q (moves_of s)) otherwise []
 
 -- a step r from m by the command c, which leaves the arrays a (that were the map's) and b (that were the other table's)
 pub record Stepped (m : Maps) (c : Command) (r : Step) (a b : Arrays) : Type 0 where
   pub answer : r.answer ≡ command_answer (session m) c
   pub flip : r.flip ≡ flips (session m) c
-  pub maps : (if r.flip then maps r.state b a else maps r.state a b) ≡ next m c
+  pub maps : (if r.flip then maps r.state b a otherwise maps r.state a b) ≡ next m c
 
 -- r is the refusal of the command c by the tests of every line, whatever the tables hold
 abbrev pub LineTested : State → Command → ℕ → Type 0

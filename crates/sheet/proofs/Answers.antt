@@ -4,7 +4,7 @@ use mathlib.Core.Path.{◌≡◌}
 use mathlib.Core.List.{List}
 use lib.ListN.{length}
 use borrow.Author.Tests.{lt-ltb, le-ltb}
-use Rattle.model.specs.Basics.{if◌then◌else◌}
+use Rattle.model.specs.Basics.{if◌then◌otherwise◌}
 use Rattle.model.specs.Table.{Table, over}
 use Rattle.model.specs.Refusal.{first}
 use Rattle.model.specs.Sheet.{sheet, sheet_length}
@@ -17,7 +17,7 @@ module _ (h : Header) (t : Table) (buffer : List ℕ) where
       : length buffer < sheet_length h.interval_count
       → (record { refusal = 34; length = 0 } ≡ sheet_answer (first (sheet_tests h buffer)) h)
       × (buffer ≡ sheet_after (first (sheet_tests h buffer)) t buffer)
-  unfolding sheet_tests sheet_answer sheet_after answer first if◌then◌else◌
+  unfolding sheet_tests sheet_answer sheet_after answer first if◌then◌otherwise◌
   sheet_short_lem l = (
     rw (lt-ltb (length buffer) (sheet_length h.interval_count) l),
     rw (lt-ltb (length buffer) (sheet_length h.interval_count) l),
@@ -29,7 +29,7 @@ module _ (h : Header) (t : Table) (buffer : List ℕ) where
       → out ≡ over (sheet t) buffer
       → (record { refusal = 0; length = n } ≡ sheet_answer (first (sheet_tests h buffer)) h)
       × (out ≡ sheet_after (first (sheet_tests h buffer)) t buffer)
-  unfolding sheet_tests sheet_answer sheet_after answer first if◌then◌else◌
+  unfolding sheet_tests sheet_answer sheet_after answer first if◌then◌otherwise◌
   sheet_done n out e l f = (
     rw (le-ltb (length buffer) (sheet_length h.interval_count) l, e),
     rw (le-ltb (length buffer) (sheet_length h.interval_count) l) f,

@@ -4,7 +4,7 @@ use mathlib.Core.Path.{◌≡◌}
 use mathlib.Core.Bool.{false}
 use mathlib.Core.Logic.{⊎_elim}
 use borrow.Author.Tests.{lt-ltb, le-ltb}
-use Rattle.model.specs.Basics.{if◌then◌else◌}
+use Rattle.model.specs.Basics.{if◌then◌otherwise◌}
 use Rattle.model.specs.Limits.{max_buckets, max_bins}
 use Rattle.model.specs.Table.{sizes}
 use Rattle.model.specs.Refusal.{first, size_outside, few_buckets}
@@ -22,7 +22,7 @@ pub record Within (b n : ℕ) : Type 0 where
 module _ (b n : ℕ) where
   -- rule 1
   pub asked_outside : (Within b n → ⊥) → 1 ≡ first (size_tests (sizes b n))
-  unfolding first size_tests size_outside if◌then◌else◌
+  unfolding first size_tests size_outside if◌then◌otherwise◌
   asked_outside h =
       ⊎_elim
       (λ t. rw t.0)
@@ -39,10 +39,10 @@ module _ (b n : ℕ) where
 
     -- rule 2
     pub asked_few : b < n → 2 ≡ first (size_tests (sizes b n))
-    unfolding first size_tests few_buckets if◌then◌else◌
+    unfolding first size_tests few_buckets if◌then◌otherwise◌
     asked_few h = rw (within, lt-ltb b n h)
 
     -- neither
     pub asked_right : n ≤ b → 0 ≡ first (size_tests (sizes b n))
-    unfolding first size_tests few_buckets if◌then◌else◌
+    unfolding first size_tests few_buckets if◌then◌otherwise◌
     asked_right h = rw (within, le-ltb b n h)

@@ -5,7 +5,7 @@ use mathlib.Core.Bool.{true, false}
 use mathlib.Core.List.{List, [], ◌∷◌, ◌++◌, append-nil, append_assoc}
 use native.Mathlib.Omega.{arith}
 use lib.ListN.{length, length-append}
-use Rattle.model.specs.Basics.{if◌then◌else◌, joined}
+use Rattle.model.specs.Basics.{if◌then◌otherwise◌, joined}
 use Rattle.model.specs.Console.{Session, text, lines_of, words_of, same, command, read as says, line, command_refusal}
 use Rattle.model.specs.Console.{command_answer, answer_text, after, printed, printed_all, output}
 use Rattle.model.specs.declared.command.Command.TheVariants.{Unreadable}
@@ -21,14 +21,14 @@ use Rattle.standing.specs.Claims.{Pieces, turn, read, close, stop, OutputWhole}
 
 -- a line of no bytes prints something
 printed_none : (s : Session) → 0 < length (printed s [])
-unfolding says words_of same command printed command_answer answer_text line text if◌then◌else◌
+unfolding says words_of same command printed command_answer answer_text line text if◌then◌otherwise◌
 printed_none s =
     let e : printed s [] ≡ line "refused" (command_refusal s Unreadable ∷ []) = ap (answer_text s) (refused _ _ _ (unreadable_refused s)) in
     omega (arith, ap length e)
 
 -- an unfinished line is a line at the end of the input, as with a line feed
 closed_lines : (r : List ℕ) → up_to_feed r ≡ r → lines_of (r ++ heard [] r) ≡ lines_of (r ++ [])
-unfolding heard lines_of if◌then◌else◌
+unfolding heard lines_of if◌then◌otherwise◌
 closed_lines [] e = refl
 closed_lines (c ∷ r) e =
     lines_on c r e (10 ∷ []) [] [] refl
@@ -39,7 +39,7 @@ closed_lines (c ∷ r) e =
 next_lines
     : (s : Session) (r : List ℕ) → up_to_feed r ≡ r
     → length (printed_all s (lines_of (r ++ []))) < length (printed_all s (lines_of ((r ++ heard [] r) ++ (10 ∷ []))))
-unfolding heard lines_of if◌then◌else◌ printed_all
+unfolding heard lines_of if◌then◌otherwise◌ printed_all
 next_lines s [] e = omega (arith, printed_none s, length-append (printed s []) [])
 next_lines s (c ∷ r) e =
     let more = ap lines_of (append_assoc (c ∷ r) (10 ∷ []) (10 ∷ [])) ∙ lines_on c r e (10 ∷ 10 ∷ []) [] ([] ∷ []) refl in
@@ -96,7 +96,7 @@ module _ (s : Standing) (i : Idle s) where
 
   -- nothing is due where no line is unfinished
   pub due_none : Ended s → due s [] ≡ []
-  unfolding due listed if◌then◌else◌
+  unfolding due listed if◌then◌otherwise◌
   due_none e = rw i.listing (none_left s.session s.rest i.rest (rw i.listing at e))
 
 -- THE PIECES
@@ -119,7 +119,7 @@ pieces (close i p) = ended_pieces p (ended_closed _ i) ∙ due_closed _ i
 
 -- all that is due at the beginning is the output
 pub due_beginning : (input : List ℕ) → due beginning input ≡ output input
-unfolding due output listed if◌then◌else◌
+unfolding due output listed if◌then◌otherwise◌
 due_beginning input = refl
 
 pub output_whole : OutputWhole

@@ -8,7 +8,7 @@ use native.Mathlib.Omega.{arith}
 use lib.ListN.{length, take, drop, drop_of_length-le}
 use lib.Dec.{ltb}
 use borrow.Author.Tests.{ltb-false}
-use Rattle.model.specs.Basics.{if◌then◌else◌, joined}
+use Rattle.model.specs.Basics.{if◌then◌otherwise◌, joined}
 use Rattle.model.specs.Relocations.{page}
 use Rattle.model.specs.Console.{Session, lines_of, read, after, printed, after_all, printed_all, moves_of, move_text}
 use Rattle.model.proofs.Counts.{bit_cases}
@@ -38,7 +38,7 @@ pub line_goes
     → length (up_to_feed s.rest) < length s.rest → s'.session ≡ after s.session l
     → s'.rest ≡ drop (suc (length l)) s.rest
     → put' ++ listed s'.listing s'.row s'.session ≡ put ++ printed s.session l → Goes put s put' s'
-unfolding due ending listed if◌then◌else◌ printed_all after_all
+unfolding due ending listed if◌then◌otherwise◌ printed_all after_all
 line_goes {put} {put'} {s} {s'} l e n h a r t =
     record {
       text = λ more.
@@ -53,8 +53,8 @@ line_goes {put} {put'} {s} {s'} l e n h a r t =
 -- the text of a page, and what is left of the list
 listed_after
     : (rs : List (List ℕ)) (q n k left : ℕ) → k ≡ length (page q n rs) → q + k + left ≡ length rs
-    → move_text (page q n rs) ++ (if ltb 0 left then move_text (drop (q + k) rs) else []) ≡ move_text (drop q rs)
-unfolding if◌then◌else◌ move_text joined
+    → move_text (page q n rs) ++ (if ltb 0 left then move_text (drop (q + k) rs) otherwise []) ≡ move_text (drop q rs)
+unfolding if◌then◌otherwise◌ move_text joined
 listed_after rs q n k left e t =
     ⊎_elim
     (λ b. rw (b.0, e) (pages_whole q n rs))
@@ -68,12 +68,12 @@ pub page_goes
     : {put : List ℕ} {s : Standing} (rs : List (List ℕ)) (n k left : ℕ) → rs ≡ moves_of s.session → s.listing ≡ true
     → k ≡ length (page s.row n rs) → s.row + k + left ≡ length rs → put ≡ move_text (page s.row n rs)
     → Goes [] s put (record { listing = ltb 0 left; row = s.row + k; session = s.session; rest = s.rest })
-unfolding due ending listed if◌then◌else◌
+unfolding due ending listed if◌then◌otherwise◌
 page_goes {put} {s} rs n k left m l e t p =
     record {
       text = λ more.
           rw (l, p, ← m)
-          (front (move_text (page s.row n rs)) (if ltb 0 left then move_text (drop (s.row + k) rs) else [])
+          (front (move_text (page s.row n rs)) (if ltb 0 left then move_text (drop (s.row + k) rs) otherwise [])
           [] (move_text (drop s.row rs))
           (printed_all s.session (lines_of (s.rest ++ more))) (listed_after rs s.row n k left e t));
       session = λ more. refl;

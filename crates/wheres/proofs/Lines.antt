@@ -6,7 +6,7 @@ use mathlib.Core.List.{List, ◌++◌, append_assoc}
 use native.Mathlib.Omega.{arith}
 use lib.ListN.{length, take, drop, length-append, length-drop}
 use lib.Seq.{sets, sets-eq, length-sets, take_all, take_at, length-take-le, drop-drop}
-use Rattle.model.specs.Basics.{if◌then◌else◌}
+use Rattle.model.specs.Basics.{if◌then◌otherwise◌}
 use Rattle.model.specs.Table.{Arrays}
 use Rattle.model.specs.Console.{Session, read, after, printed}
 use Rattle.lines.specs.Words.{up_to_feed}
@@ -56,7 +56,7 @@ Went_then v w =
 
 -- a list that begins does so with its first row
 list_first : (follow : Bool) (row : ℕ) (s : Session) → (follow ≡ true → row ≡ 0) → listed follow row s ≡ listed follow 0 s
-unfolding listed if◌then◌else◌
+unfolding listed if◌then◌otherwise◌
 list_first true row s first = ap (λ q. listed true q s) (first refl)
 list_first false row s first = refl
 

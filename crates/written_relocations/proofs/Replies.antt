@@ -6,7 +6,7 @@ use mathlib.Core.List.{List}
 use native.Mathlib.Omega.{arith}
 use lib.ListN.{length}
 use borrow.Author.Tests.{ltb-true, ltb-false, lt-ltb, le-ltb}
-use Rattle.model.specs.Basics.{if◌then◌else◌}
+use Rattle.model.specs.Basics.{if◌then◌otherwise◌}
 use Rattle.model.specs.Table.{Shape, Arrays, table}
 use Rattle.model.specs.Refusal.{first}
 use Rattle.model.specs.Expansion.{expanded}
@@ -62,7 +62,7 @@ module _ (h : Header) (a : Arrays) (s : Shape) (bits : List ℕ) where
           ∙ passed h a r e _ z
 
       pub by_few : q ≡ 0 → 64 * length bits < h.buckets → 42 ≡ written_refusal h a s bits
-      unfolding written_tests bits_short first if◌then◌else◌
+      unfolding written_tests bits_short first if◌then◌otherwise◌
       by_few none few = rw (← by_bits none, lt-ltb (64 * length bits) h.buckets few)
 
       pub accepted_by

@@ -5,7 +5,7 @@ use mathlib.Core.Bool.{false}
 use native.Mathlib.Omega.{arith}
 use lib.ListN.{length}
 use borrow.Author.Rules.{rules}
-use Rattle.model.specs.Basics.{if◌then◌else◌}
+use Rattle.model.specs.Basics.{if◌then◌otherwise◌}
 use Rattle.model.specs.Lent.{lent}
 use Rattle.model.specs.Table.{table}
 use Rattle.model.specs.Refusal.{falls}
@@ -21,7 +21,7 @@ falls-requires : tie.Need-falls-requires
 falls-requires c κs = omega (arith, c.if-count-eq0.false)
 
 returns-2 : tie.Need-returns-then-falls
-unfolding answer if◌then◌else◌
+unfolding answer if◌then◌otherwise◌
 returns-2 c = (falls_refused _ _ (sym c.falls.ensures ∙ c.if-falls.true), refl)
 
 -- one bucket more than the place of the last
@@ -47,7 +47,7 @@ rise
 rise c = sym c.falls.ensures ∙ c.if-falls.false
 
 returns-3 : tie.Need-returns-then-h-buckets
-unfolding answer if◌then◌else◌ table
+unfolding answer if◌then◌otherwise◌ table
 returns-3 c =
     let tested = c.before.before.before in
     (last_refused _ _ _ (some tested) (rise tested) (omega (arith, c.if-h-buckets.true)), refl)
@@ -65,7 +65,7 @@ same_length : tie.Need-shape_of-out
 same_length c = search rules
 
 returns-4 : tie.Need-returns
-unfolding answer if◌then◌else◌ table
+unfolding answer if◌then◌otherwise◌ table
 returns-4 c =
     let written = c.before.before in
     let passed = written.before.before in

@@ -3,7 +3,7 @@ use Prim.Native.Nat.{◌*◌, ◌≤◌}
 use mathlib.Core.Path.{refl, sym, ◌∙◌}
 use native.Mathlib.Omega.{arith}
 use lib.ListN.{length}
-use Rattle.model.specs.Basics.{if◌then◌else◌}
+use Rattle.model.specs.Basics.{if◌then◌otherwise◌}
 use Rattle.model.specs.Calls.{answer}
 use Rattle.model.proofs.Refusals.{refused}
 use Rattle.model.proofs.Checked.{checked, stands, passed}
@@ -13,7 +13,7 @@ use Rattle.irr.proofs.places.Statement.{statement}
 use Rattle.irr.proofs.places.Tie as tie
 
 returns : tie.Need-returns-then-places-buckets
-unfolding answer if◌then◌else◌
+unfolding answer if◌then◌otherwise◌
 returns c = places_answers _ _ _ _ 33 (places_short _ _ _ _ (omega (arith, c.if-places-buckets.true))) refl
 
 check-requires : tie.Need-check-refusal-requires

@@ -5,7 +5,7 @@ use mathlib.Core.Bool.{true, false}
 use mathlib.Core.List.{List}
 use lib.ListN.{take}
 use borrow.Author.Rules.{rules}
-use Rattle.model.specs.Basics.{if◌then◌else◌}
+use Rattle.model.specs.Basics.{if◌then◌otherwise◌}
 use Rattle.model.specs.Console.{text, same}
 use Rattle.lines.specs.Words.{with_two}
 use Rattle.lines.proofs.with_two.Statement.{statement}
@@ -19,7 +19,7 @@ is-word-requires : tie.Need-is_word-requires
 is-word-requires c κs = search rules
 
 returns : tie.Need-returns-then-is_word
-unfolding with_two text if◌then◌else◌
+unfolding with_two text if◌then◌otherwise◌
 returns c =
     let fresh : same (word c.before.before.before.before.before) (text "fresh") ≡ true =
     sym c.is_word.ensures ∙ c.if-is_word.true
@@ -34,7 +34,7 @@ unfolding text
 not_fresh c = sym c.is_word.ensures ∙ c.if-is_word.false
 
 returns-2 : tie.Need-returns-then-is_word-2
-unfolding with_two text if◌then◌else◌
+unfolding with_two text if◌then◌otherwise◌
 returns-2 c =
     let grow : same (word c.before.before.before.before.before.before.before.before.before) (text "grow") ≡ true =
     sym c.is_word-2.ensures ∙ c.if-is_word-2.true
@@ -49,7 +49,7 @@ unfolding text
 not-grow c = sym c.is_word-2.ensures ∙ c.if-is_word-2.false
 
 returns-3 : tie.Need-returns-then-is_word-3
-unfolding with_two text if◌then◌else◌
+unfolding with_two text if◌then◌otherwise◌
 returns-3 c =
     let at : same (word c.before.before.before.before.before.before.before.before.before.before.before.before.before) (text "at") ≡ true =
     sym c.is_word-3.ensures ∙ c.if-is_word-3.true
@@ -57,7 +57,7 @@ returns-3 c =
     rw (not_fresh c.before.before.before.before.before.before.before.before, not-grow c.before.before.before.before, at)
 
 returns-4 : tie.Need-returns
-unfolding with_two text if◌then◌else◌
+unfolding with_two text if◌then◌otherwise◌
 returns-4 c =
     let not_at : same (word c.before.before.before.before.before.before.before.before.before.before.before.before.before) (text "at") ≡ false =
     sym c.is_word-3.ensures ∙ c.if-is_word-3.false

@@ -5,7 +5,7 @@ use native.Mathlib.Nat.{mul-le-mul}
 use native.Mathlib.Omega.{arith}
 use borrow.Author.Rules.{rules}
 use borrow.Author.Tests.{lt-ltb, le-ltb}
-use Rattle.model.specs.Basics.{if◌then◌else◌}
+use Rattle.model.specs.Basics.{if◌then◌otherwise◌}
 use Rattle.model.specs.Refusal.{first}
 use Rattle.model.specs.Room.{room}
 use Rattle.model.specs.Calls.{answer, room_refusal, room_reply}
@@ -21,11 +21,11 @@ half : {x k : ℕ} → x < 2 ^ 32 → k < 2 ^ 16 → x / 2 + k < 2 ^ 32
 half l e = omega arith
 
 refused : (m v : ℕ) → 64 < m → v ≡ 0 → record { refusal = 9; intervals = v } ≡ room_reply m
-unfolding room_reply room_refusal answer first if◌then◌else◌
+unfolding room_reply room_refusal answer first if◌then◌otherwise◌
 refused m v l e = rw (lt-ltb 64 m l, e)
 
 accepted : (m v : ℕ) → m ≤ 64 → v ≡ room m → record { refusal = 0; intervals = v } ≡ room_reply m
-unfolding room_reply room_refusal answer first if◌then◌else◌
+unfolding room_reply room_refusal answer first if◌then◌otherwise◌
 accepted m v l e = rw (le-ltb 64 m l, e)
 
 returns : tie.Need-returns-then-expansions-gt-MAX_EXPANSIONS

@@ -1,5 +1,5 @@
 -- `session::act::line_refusal` meets its contract. Assumes nothing.
-use Rattle.model.specs.Basics.{if◌then◌else◌}
+use Rattle.model.specs.Basics.{if◌then◌otherwise◌}
 use Rattle.model.specs.Refusal.{first}
 use Rattle.session.specs.Maps.{maps}
 use Rattle.session.proofs.Steps.{line_tests_lem}
@@ -14,7 +14,7 @@ is-unmapped-requires : tie.Need-is_unmapped-unmapped-requires
 is-unmapped-requires c κs = search rules
 
 returns : tie.Need-returns-then-unreadable
-unfolding first if◌then◌else◌
+unfolding first if◌then◌otherwise◌
 returns c this other =
     let args = c.args in
     rw c.if-unreadable.true at
@@ -22,7 +22,7 @@ returns c this other =
     c.is_unreadable-unreadable.ensures c.is_unmapped-unmapped.ensures)
 
 returns-2 : tie.Need-returns-then-unmapped
-unfolding first if◌then◌else◌
+unfolding first if◌then◌otherwise◌
 returns-2 c this other =
     let args = c.args in
     rw (c.if-unreadable.false, c.if-unmapped.true) at
@@ -30,7 +30,7 @@ returns-2 c this other =
     c.is_unreadable-unreadable.ensures c.is_unmapped-unmapped.ensures)
 
 returns-3 : tie.Need-returns
-unfolding first if◌then◌else◌
+unfolding first if◌then◌otherwise◌
 returns-3 c this other =
     let args = c.args in
     rw (c.if-unreadable.false, c.if-unmapped.false) at
