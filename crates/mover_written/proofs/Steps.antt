@@ -7,8 +7,8 @@ use native.Mathlib.Omega.{arith}
 use lib.ListN.{length, get_or, set}
 use Rattle.model.specs.Calls.{rows_of}
 use Rattle.model.specs.declared.reply.CarryReply.{CarryReply}
-use Rattle.row_places.specs.Rows.{places_of}
-use Rattle.row_places.specs.declared.RowPlaces.{RowPlaces}
+use Rattle.row_places.specs.Rows.{whole_row}
+use Rattle.row_places.specs.declared.Row.{Row}
 use Rattle.mover_written.specs.Carry.{Growth, Told, bits, is_written, row_at, bucket_at, total, source, target, carry_refusal, carry_reply, carry_words}
 use Rattle.mover_written.specs.Steps.{from_of, to_of, Stepped}
 use Rattle.mover_written.specs.declared.Step.{Step}
@@ -41,8 +41,8 @@ module _ (g : Growth) (told : Told) (ws : List ℕ) (m : ℕ) where
 
   -- THE ROW, whose bucket and places are r
   module _
-      (ok : carry_refusal g told ws m ≡ 0) (below : m < total g) (r : RowPlaces)
-      (e : r ≡ places_of (get_or (rows_of g.header g.arrays g.sizes) m [])) where
+      (ok : carry_refusal g told ws m ≡ 0) (below : m < total g) (r : Row)
+      (e : r ≡ whole_row (get_or (rows_of g.header g.arrays g.sizes) m [])) where
     abbrev p : ℕ
     p = g.header.capacity
 
@@ -56,7 +56,7 @@ module _ (g : Growth) (told : Told) (ws : List ℕ) (m : ℕ) where
 
     pub row_bucket : r.bucket ≡ bucket_at g m
     unfolding row_at
-    row_bucket = ap (λ (r : RowPlaces). r.bucket) e
+    row_bucket = ap (λ (r : Row). r.bucket) e
 
     -- its words are there
     pub row_within : (from_of p r < length ws) × (to_of p r < length ws)

@@ -16,7 +16,7 @@ ghost use Rattle.mover_written.specs.WrittenClaims.{CountClaims};
 
 use model::reply::CarryReply;
 use model::table::Header;
-use row_places::{RowPlaces, row_places};
+use row_places::{Row, row_of};
 use written::{bits_short, is_written};
 
 // A call's reply, and whether there is a row to do.
@@ -154,7 +154,7 @@ fn step_of(
 }
 
 // The word of a row's old place copied to its new one.
-fn copy_row(capacity: u32, row: RowPlaces, words: &mut [u32])
+fn copy_row(capacity: u32, row: Row, words: &mut [u32])
     requires { (from_of capacity row < length words.old) × (to_of capacity row < length words.old) }
     ensures { words.new ≡ set words.old (to_of capacity row) (get_or words.old (from_of capacity row) 0) }
 {
@@ -188,7 +188,7 @@ pub fn carry(
     if !step.some {
         return step.reply;
     }
-    let row = row_places(header, tops, ends, blocks, adjustments, buckets, bins, mark);
+    let row = row_of(header, tops, ends, blocks, adjustments, buckets, bins, mark);
     copy_row(header.capacity, row, words);
     step.reply
 }
@@ -222,7 +222,7 @@ pub fn carry_written(
     if !step.some {
         return step.reply;
     }
-    let row = row_places(header, tops, ends, blocks, adjustments, buckets, bins, mark);
+    let row = row_of(header, tops, ends, blocks, adjustments, buckets, bins, mark);
     if is_blank(bits, row.bucket) {
         return step.reply;
     }

@@ -15,7 +15,7 @@ use Rattle.mover_written.proofs.carry.Statement.{statement}
 use Rattle.mover_written.proofs.carry.Tie as tie
 
 -- the function's entry, the growth that it is given, and the words
-abbrev start : tie.After-step-of → tie.Start
+abbrev start : tie.After-step_of-step → tie.Start
 start c = c.before.before.before.before.before.before.before.before
 
 abbrev g : tie.Start → Growth
@@ -24,61 +24,61 @@ g c =
     (sizes c.args.buckets c.args.bins)
 
 -- past the check the table is sound
-sound : (c : tie.Else1) → Sound c.before.before.before.before.before.before.before.args.header (g c.before.before.before.before.before.before.before).arrays
-sound c = (sound_iff_lem _ _).0 (sym c.before.table-refusal.ensures ∙ c.if1.false)
+sound : (c : tie.Else-wrong-ne0) → Sound c.args.header (g c.before.before.before.before.before.before.before).arrays
+sound c = (sound_iff_lem _ _).0 (sym c.table_refusal-wrong.ensures ∙ c.if-wrong-ne0.false)
 
 -- what is to be done
-stepped : (c : tie.After-step-of) → Stepped (g (start c)) every (start c).args.words.now (start c).args.mark c.step_of.result
+stepped : (c : tie.After-step_of-step) → Stepped (g (start c)) every (start c).args.words.now (start c).args.mark c.step_of-step.result
 unfolding told_short
-stepped c = c.step_of.ensures _ _ _ (sound c.before) every (start c).args.words.now refl refl
+stepped c = c.step_of-step.ensures _ _ _ (sound c.before) every (start c).args.words.now refl refl
 
 -- the row, if there is one
 row
-    : (c : tie.Else2)
+    : (c : tie.Else-not-step)
     → (carry_refusal (g (start c.before.before)) every (start c.before.before).args.words.now (start c.before.before).args.mark ≡ 0)
     × ((start c.before.before).args.mark < total (g (start c.before.before)))
-row c = (stepped c.before.before).row (not-false _ c.if2.false)
+row c = (stepped c.before.before).row (not-false _ c.if-not-step.false)
 
-table-refusal-requires : tie.Need-table-refusal-requires
+table-refusal-requires : tie.Need-table_refusal-wrong-requires
 table-refusal-requires c κs = search rules
 
 refused-requires : tie.Need-refused-requires
 refused-requires c κs = search rules
 
-returns : tie.Need-returns
+returns : tie.Need-returns-then-wrong-ne0
 returns c =
-    let wrong = c.before.if1.true in
-    refused_by_lem _ _ _ _ _ _ c.refused.ensures wrong (by_table _ _ _ _ _ c.before.before.table-refusal.ensures wrong)
+    let wrong = c.if-wrong-ne0.true in
+    refused_by_lem _ _ _ _ _ _ c.refused.ensures wrong (by_table _ _ _ _ _ c.table_refusal-wrong.ensures wrong)
 
-step-of-requires : tie.Need-step-of-requires
+step-of-requires : tie.Need-step_of-step-requires
 step-of-requires c κs = (_, _, _, sound c)
 
-returns-2 : tie.Need-returns-2
+returns-2 : tie.Need-returns-then-not-step
 returns-2 c =
     let at = c.before.before.before in
-    ((stepped at).reply, (stepped at).none (not-true _ c.before.if2.true))
+    ((stepped at).reply, (stepped at).none (not-true _ c.if-not-step.true))
 
-row-places-requires : tie.Need-row-places-requires
+row-places-requires : tie.Need-row_of-row-requires
 unfolding total
 row-places-requires c κs =
     let (ready, _, _) = accepted_ready _ _ _ _ (row c).0 in
     (ready.sound.formed, (ready.asked, (row c).1))
 
-copy-row-requires : tie.Need-copy-row-requires
+copy-row-requires : tie.Need-copy_row-requires
 copy-row-requires c κs =
     let here = row c.before.before in
-    row_within _ _ _ _ here.0 here.1 _ c.before.row-places.ensures
+    row_within _ _ _ _ here.0 here.1 _ c.before.row_of-row.ensures
 
-same_length : tie.Need-same-length
+same_length : tie.Need-shape_of-words
 same_length c = search rules
 
-returns-3 : tie.Need-returns-3
+returns-3 : tie.Need-returns
 unfolding is_written
 returns-3 c =
     let there = c.before.before.before.before.before in
     let here = row there.before in (
       (stepped there.before.before.before).reply,
-      row_copied _ _ _ _ here.0 here.1 _ there.row-places.ensures _ c.before.before.before.copy-row.ensures refl,
+      row_copied _ _ _ _ here.0 here.1 _ there.row_of-row.ensures _ c.copy_row.ensures refl,
     )
 
 pub carry_spec : {M : Type 1} → statement M

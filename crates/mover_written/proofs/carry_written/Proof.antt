@@ -15,7 +15,7 @@ use Rattle.mover_written.proofs.carry_written.Statement.{statement}
 use Rattle.mover_written.proofs.carry_written.Tie as tie
 
 -- the function's entry, the growth that it is given, and the words
-abbrev start : tie.After-step-of → tie.Start
+abbrev start : tie.After-step_of-step → tie.Start
 start c = c.before.before.before.before.before.before.before.before.before.before
 
 abbrev g : tie.Start → Growth
@@ -27,86 +27,86 @@ abbrev told : tie.Start → Told
 told c = bits c.args.bits.now
 
 -- past the check the table is sound
-sound : (c : tie.Else1) → Sound c.before.before.before.before.before.before.before.before.args.header (g c.before.before.before.before.before.before.before.before).arrays
-sound c = (sound_iff_lem _ _).0 (sym c.before.table-refusal.ensures ∙ c.if1.false)
+sound : (c : tie.Else-wrong-ne0) → Sound c.args.header (g c.before.before.before.before.before.before.before.before).arrays
+sound c = (sound_iff_lem _ _).0 (sym c.table_refusal-wrong.ensures ∙ c.if-wrong-ne0.false)
 
 -- what is to be done
 stepped
-    : (c : tie.After-step-of)
-    → Stepped (g (start c)) (told (start c)) (start c).args.words.now (start c).args.mark c.step_of.result
+    : (c : tie.After-step_of-step)
+    → Stepped (g (start c)) (told (start c)) (start c).args.words.now (start c).args.mark c.step_of-step.result
 unfolding told_short
 stepped c =
-    c.step_of.ensures _ _ _ (sound c.before.before) (told (start c)) (start c).args.words.now refl
-    c.before.bits-short.ensures
+    c.step_of-step.ensures _ _ _ (sound c.before.before) (told (start c)) (start c).args.words.now refl
+    c.bits_short-few.ensures
 
 -- the row, if there is one
 row
-    : (c : tie.Else2)
+    : (c : tie.Else-not-step)
     → (carry_refusal (g (start c.before.before)) (told (start c.before.before)) (start c.before.before).args.words.now (start c.before.before).args.mark ≡ 0)
     × ((start c.before.before).args.mark < total (g (start c.before.before)))
-row c = (stepped c.before.before).row (not-false _ c.if2.false)
+row c = (stepped c.before.before).row (not-false _ c.if-not-step.false)
 
-table-refusal-requires : tie.Need-table-refusal-requires
+table-refusal-requires : tie.Need-table_refusal-wrong-requires
 table-refusal-requires c κs = search rules
 
 refused-requires : tie.Need-refused-requires
 refused-requires c κs = search rules
 
-returns : tie.Need-returns
+returns : tie.Need-returns-then-wrong-ne0
 returns c =
-    let wrong = c.before.if1.true in
-    refused_by_lem _ _ _ _ _ _ c.refused.ensures wrong (by_table _ _ _ _ _ c.before.before.table-refusal.ensures wrong)
+    let wrong = c.if-wrong-ne0.true in
+    refused_by_lem _ _ _ _ _ _ c.refused.ensures wrong (by_table _ _ _ _ _ c.table_refusal-wrong.ensures wrong)
 
-bits-short-requires : tie.Need-bits-short-requires
+bits-short-requires : tie.Need-bits_short-few-requires
 bits-short-requires c κs = search rules
 
-step-of-requires : tie.Need-step-of-requires
+step-of-requires : tie.Need-step_of-step-requires
 step-of-requires c κs = (_, _, _, sound c.before)
 
-returns-2 : tie.Need-returns-2
+returns-2 : tie.Need-returns-then-not-step
 returns-2 c =
     let at = c.before.before.before in
-    ((stepped at).reply, (stepped at).none (not-true _ c.before.if2.true))
+    ((stepped at).reply, (stepped at).none (not-true _ c.if-not-step.true))
 
-row-places-requires : tie.Need-row-places-requires
+row-places-requires : tie.Need-row_of-row-requires
 unfolding total
 row-places-requires c κs =
     let (ready, _, _) = accepted_ready _ _ _ _ (row c).0 in
     (ready.sound.formed, (ready.asked, (row c).1))
 
-is-blank-requires : tie.Need-is-blank-requires
+is-blank-requires : tie.Need-is_blank-requires
 is-blank-requires c κs =
     let here = row c.before in
-    row_bit_lem _ _ _ _ here.0 here.1 _ (row_bucket _ _ _ _ here.0 here.1 _ c.row-places.ensures)
+    row_bit_lem _ _ _ _ here.0 here.1 _ (row_bucket _ _ _ _ here.0 here.1 _ c.row_of-row.ensures)
 
-returns-3 : tie.Need-returns-3
+returns-3 : tie.Need-returns-then-is_blank
 unfolding is_written
 returns-3 c =
     let there = c.before.before.before in
     let here = row there.before in
-    let blank = sym c.before.before.is-blank.ensures ∙ c.before.if3.true in (
+    let blank = sym c.is_blank.ensures ∙ c.if-is_blank.true in (
       (stepped there.before.before.before).reply,
-      row_blank _ _ _ _ here.0 here.1 _ there.row-places.ensures (not-true _ blank),
+      row_blank _ _ _ _ here.0 here.1 _ there.row_of-row.ensures (not-true _ blank),
     )
 
-copy-row-requires : tie.Need-copy-row-requires
+copy-row-requires : tie.Need-copy_row-requires
 copy-row-requires c κs =
     let there = c.before.before.before in
     let here = row there.before in
-    row_within _ _ _ _ here.0 here.1 _ there.row-places.ensures
+    row_within _ _ _ _ here.0 here.1 _ there.row_of-row.ensures
 
-same_length : tie.Need-same-length
+same_length : tie.Need-shape_of-words
 same_length c = search rules
 
-returns-4 : tie.Need-returns-4
+returns-4 : tie.Need-returns
 unfolding is_written
 returns-4 c =
     let there = c.before.before.before.before.before.before.before in
     let here = row there.before in
     let asked = c.before.before.before.before.before in
-    let written = sym asked.before.is-blank.ensures ∙ asked.if3.false in (
+    let written = sym asked.is_blank.ensures ∙ asked.if-is_blank.false in (
       (stepped there.before.before.before).reply,
-      row_copied _ _ _ _ here.0 here.1 _ there.row-places.ensures _ c.before.before.before.copy-row.ensures
+      row_copied _ _ _ _ here.0 here.1 _ there.row_of-row.ensures _ c.copy_row.ensures
           (not-false _ written),
     )
 

@@ -53,4 +53,5 @@ returns c = (
 )
 
 pub claims_spec : {M : Type 1} → statement M
-claims_spec = tie.close (tie.spec returns)
+claims_spec = tie.close (tie.spec
+    returns)

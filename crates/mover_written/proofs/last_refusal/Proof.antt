@@ -4,31 +4,35 @@ use Rattle.model.proofs.Refusals.{first_here, first_skip, first_none}
 use Rattle.mover_written.proofs.last_refusal.Statement.{statement}
 use Rattle.mover_written.proofs.last_refusal.Tie as tie
 
-returns : tie.Need-returns
-returns c = sym (first_here (40, c.before.args.short) _ c.if1.true)
+returns : tie.Need-returns-then-short
+returns c = sym (first_here (40, c.args.short) _ c.if-short.true)
 
-returns-2 : tie.Need-returns-2
+returns-2 : tie.Need-returns-then-few
 returns-2 c =
     sym
-    (first_skip (40, c.before.before.args.short) _ c.before.if1.false
-    ∙ first_here (42, c.before.before.args.few) _ c.if2.true)
+    (first_skip (40, c.args.short) _ c.if-short.false
+    ∙ first_here (42, c.args.few) _ c.if-few.true)
 
-returns-3 : tie.Need-returns-3
+returns-3 : tie.Need-returns-then-past
 returns-3 c =
-    let args = c.before.before.before.args in
+    let args = c.args in
     sym
-    (first_skip (40, args.short) _ c.before.before.if1.false
-    ∙ first_skip (42, args.few) _ c.before.if2.false
-    ∙ first_here (41, args.past) _ c.if3.true)
+    (first_skip (40, args.short) _ c.if-short.false
+    ∙ first_skip (42, args.few) _ c.if-few.false
+    ∙ first_here (41, args.past) _ c.if-past.true)
 
-returns-4 : tie.Need-returns-4
+returns-4 : tie.Need-returns
 returns-4 c =
-    let args = c.before.before.before.args in
+    let args = c.args in
     sym
-    (first_skip (40, args.short) _ c.before.before.if1.false
-    ∙ first_skip (42, args.few) _ c.before.if2.false
-    ∙ first_skip (41, args.past) _ c.if3.false
+    (first_skip (40, args.short) _ c.if-short.false
+    ∙ first_skip (42, args.few) _ c.if-few.false
+    ∙ first_skip (41, args.past) _ c.if-past.false
     ∙ first_none)
 
 pub last_refusal_spec : {M : Type 1} → statement M
-last_refusal_spec = tie.close (tie.spec returns returns-2 returns-3 returns-4)
+last_refusal_spec = tie.close (tie.spec
+    returns
+    returns-2
+    returns-3
+    returns-4)

@@ -7,4 +7,5 @@ returns : tie.Need-returns
 returns c = refl
 
 pub refused_spec : {M : Type 1} → statement M
-refused_spec = tie.close (tie.spec returns)
+refused_spec = tie.close (tie.spec
+    returns)

@@ -21,7 +21,7 @@ use Rattle.mover_written.proofs.step_of.Statement.{statement}
 use Rattle.mover_written.proofs.step_of.Tie as tie
 
 -- the function's entry, and the growth that it is given with the other three arrays of a table
-abbrev start : tie.After-growth-refusal → tie.Start
+abbrev start : tie.After-growth_refusal-wrong → tie.Start
 start c = c.before.before
 
 abbrev g : tie.Start → List ℕ → List ℕ → List ℕ → Growth
@@ -30,13 +30,13 @@ g c ends blocks adjustments =
 
 -- past the growth's tests the sizes are accepted
 asked
-    : (c : tie.Else1) (ends blocks adjustments : List ℕ)
+    : (c : tie.Else-wrong-ne0) (ends blocks adjustments : List ℕ)
     → first (growth_tests (old_table (g (start c.before) ends blocks adjustments)) (g (start c.before) ends blocks adjustments).sizes)
     ≡ 0
-asked c ends blocks adjustments = sym (c.before.growth-refusal.ensures ends blocks adjustments) ∙ c.if1.false
+asked c ends blocks adjustments = sym (c.growth_refusal-wrong.ensures ends blocks adjustments) ∙ c.if-wrong-ne0.false
 
 -- a table of a start's with its own tops, and its rows
-module _ (c : tie.After-last-refusal) where
+module _ (c : tie.After-last_refusal-wrong) where
   abbrev entry : tie.Start
   entry = start c.before.before.before.before
 
@@ -45,17 +45,17 @@ module _ (c : tie.After-last-refusal) where
     abbrev here : Growth
     here = g entry ends blocks adjustments
 
-    counted : c.before.before.relocation-count.result ≡ total here
+    counted : c.before.before.relocation_count-total.result ≡ total here
     unfolding total rows_of
-    counted = c.before.before.relocation-count.ensures ends blocks adjustments sound.formed
+    counted = c.before.before.relocation_count-total.ensures ends blocks adjustments sound.formed
 
     -- the last tests are the definition's, whatever the call is told and lent with those flags
     tested
         : (told : Told) (ws : List ℕ) → entry.args.words ≡ length ws → entry.args.few ≡ told_short here told
-        → c.last-refusal.result ≡ carry_refusal here told ws entry.args.mark
+        → c.last_refusal-wrong.result ≡ carry_refusal here told ws entry.args.mark
     unfolding words_short word_at
     tested told ws long few =
-        last_tests here told ws entry.args.mark _ _ _ _ c.last-refusal.ensures
+        last_tests here told ws entry.args.mark _ _ _ _ c.last_refusal-wrong.ensures
         (ap₂ ltb long (c.before.word_at.ensures ∙ add-zero _))
         few
         (ap (λ k. ltb k entry.args.mark) counted)
@@ -63,75 +63,75 @@ module _ (c : tie.After-last-refusal) where
         (sym (asked c.before.before.before ends blocks adjustments)) refl
 
 -- past them the mark is at most the number of rows, and where it is not that number there is the row
-some : (c : tie.Else3) → (entry c.before.before).args.mark < c.before.before.before.before.relocation-count.result
+some : (c : tie.Else-total-mark) → (entry c.before.before).args.mark < c.relocation_count-total.result
 some c =
     let at = c.before.before in
-    let within : (entry at).args.mark ≤ at.before.before.relocation-count.result =
-    last_mark _ _ _ _ (sym at.last-refusal.ensures ∙ c.before.if2.false) in
-    let other = c.if3.false in
+    let within : (entry at).args.mark ≤ at.relocation_count-total.result =
+    last_mark _ _ _ _ (sym at.last_refusal-wrong.ensures ∙ c.if-wrong-ne0-2.false) in
+    let other = c.if-total-mark.false in
     omega arith
 
-growth-refusal-requires : tie.Need-growth-refusal-requires
-growth-refusal-requires c κs = lent_tops _ _ c.before.requires.3.formed
+growth-refusal-requires : tie.Need-growth_refusal-wrong-requires
+growth-refusal-requires c κs = lent_tops _ _ c.requires.3.formed
 
 refused-requires : tie.Need-refused-requires
 refused-requires c κs = search rules
 
-no-row-requires : tie.Need-no-row-requires
+no-row-requires : tie.Need-no_row-requires
 no-row-requires c κs = search rules
 
-returns : tie.Need-returns
+returns : tie.Need-returns-then-wrong-ne0
 returns c =
     λ ends blocks adjustments sound told ws long few.
     let at = c.before.before.before in
-    let wrong = c.before.before.if1.true in
+    let wrong = c.if-wrong-ne0.true in
     no_step _ told ws _ _ _ c.no_row.ensures
-    (refused_by_lem _ told ws _ _ _ c.before.refused.ensures wrong
-    (by_growth _ told ws _ 0 (sym ((sound_iff_lem _ _).1 sound)) refl _ (at.growth-refusal.ensures ends blocks adjustments) wrong))
+    (refused_by_lem _ told ws _ _ _ c.refused.ensures wrong
+    (by_growth _ told ws _ 0 (sym ((sound_iff_lem _ _).1 sound)) refl _ (at.growth_refusal-wrong.ensures ends blocks adjustments) wrong))
 
-relocation-count-requires : tie.Need-relocation-count-requires
+relocation-count-requires : tie.Need-relocation_count-total-requires
 relocation-count-requires c κs =
     let (ends, blocks, adjustments, sound) = (start c.before).requires in
     record { whole = lent_tops _ _ sound.formed; asked = asked c ends blocks adjustments }
 
-word-at-requires : tie.Need-word-at-requires
+word-at-requires : tie.Need-word_at-requires
 word-at-requires c κs = search rules
 
-last-refusal-requires : tie.Need-last-refusal-requires
+last-refusal-requires : tie.Need-last_refusal-wrong-requires
 last-refusal-requires c κs = search rules
 
-refused-requires-2 : tie.Need-refused-requires-2
+refused-requires-2 : tie.Need-refused-requires-then-wrong-ne0-2
 refused-requires-2 c κs = search rules
 
-no-row-requires-2 : tie.Need-no-row-requires-2
+no-row-requires-2 : tie.Need-no_row-requires-then-wrong-ne0-2
 no-row-requires-2 c κs = search rules
 
-returns-2 : tie.Need-returns-2
+returns-2 : tie.Need-returns-then-wrong-ne0-2
 returns-2 c =
     λ ends blocks adjustments sound told ws long few.
-    no_step _ told ws _ _ _ c.no-row2.ensures
-    (refused_by_lem _ told ws _ _ _ c.before.refused2.ensures c.before.before.if2.true
+    no_step _ told ws _ _ _ c.no_row-then-wrong-ne0-2.ensures
+    (refused_by_lem _ told ws _ _ _ c.refused-then-wrong-ne0-2.ensures c.if-wrong-ne0-2.true
     (tested c.before.before.before ends blocks adjustments sound told ws long few))
 
 accepted-requires : tie.Need-accepted-requires
 accepted-requires c κs = search rules
 
-no-row-requires-3 : tie.Need-no-row-requires-3
+no-row-requires-3 : tie.Need-no_row-requires-then-total-mark
 no-row-requires-3 c κs = search rules
 
-returns-3 : tie.Need-returns-3
+returns-3 : tie.Need-returns-then-total-mark
 returns-3 c =
     λ ends blocks adjustments sound told ws long few.
     let at = c.before.before.before in
-    let ok = sym (tested at.before ends blocks adjustments sound told ws long few) ∙ at.if2.false in
+    let ok = sym (tested at.before ends blocks adjustments sound told ws long few) ∙ at.if-wrong-ne0-2.false in
     let end : total (here at.before ends blocks adjustments sound) ≤ (entry at.before).args.mark =
-    omega (arith, counted at.before ends blocks adjustments sound, c.before.before.if3.true) in
-    no_step _ told ws _ _ _ c.no-row3.ensures (
-      end_by _ told ws _ ok _ _ _ c.before.accepted.ensures end (omega arith) (omega arith),
+    omega (arith, counted at.before ends blocks adjustments sound, c.if-total-mark.true) in
+    no_step _ told ws _ _ _ c.no_row-then-total-mark.ensures (
+      end_by _ told ws _ ok _ _ _ c.accepted.ensures end (omega arith) (omega arith),
       sym (words_end _ told ws _ ok end),
     )
 
-add-accepted : tie.Need-overflow-add-accepted
+add-accepted : tie.Need-overflow_add-mark
 add-accepted c =
     let at = c.before.before in
     let (ends, blocks, adjustments, sound) = (entry at).requires in
@@ -146,12 +146,12 @@ add-accepted c =
 accepted-requires-2 : tie.Need-accepted-requires-2
 accepted-requires-2 c κs = search rules
 
-returns-4 : tie.Need-returns-4
+returns-4 : tie.Need-returns
 returns-4 c =
     λ ends blocks adjustments sound told ws long few.
     let at = c.before.before.before in
-    one_step _ told ws _ _ _ _ c.accepted2.ensures (omega arith) (omega arith)
-    (sym (tested at ends blocks adjustments sound told ws long few) ∙ c.before.before.if2.false)
+    one_step _ told ws _ _ _ _ c.accepted-2.ensures (omega arith) (omega arith)
+    (sym (tested at ends blocks adjustments sound told ws long few) ∙ c.if-wrong-ne0-2.false)
     (omega (arith, some c.before, counted at ends blocks adjustments sound))
 
 pub step_of_spec : {M : Type 1} → statement M

@@ -14,13 +14,13 @@ small a b l k =
     let y : b ≤ 4294967295 = omega arith in
     mul-le-mul x y
 
-mul-result : tie.Need-overflow-mul-result
+mul-result : tie.Need-overflow_mul-result
 mul-result c =
     let some = small c.args.bin c.args.capacity (omega arith) (omega arith) in
     let other = small c.args.position c.args.capacity (omega arith) (omega arith) in
     omega arith
 
-add-result : tie.Need-overflow-add-result
+add-result : tie.Need-overflow_add-result
 add-result c =
     let some = small c.args.bin c.args.capacity (omega arith) (omega arith) in
     let other = small c.args.position c.args.capacity (omega arith) (omega arith) in
@@ -31,4 +31,7 @@ unfolding word_at
 returns c = refl
 
 pub word_at_spec : {M : Type 1} → statement M
-word_at_spec = tie.close (tie.spec mul-result add-result returns)
+word_at_spec = tie.close (tie.spec
+    mul-result
+    add-result
+    returns)
