@@ -8,7 +8,7 @@ use lib.ListN.{length, get_or, set}
 use Rattle.model.specs.Calls.{rows_of}
 use Rattle.model.specs.declared.reply.CarryReply.{CarryReply}
 use Rattle.row_places.specs.Rows.{whole_row}
-use Rattle.row_places.specs.declared.Row.{Row}
+use Rattle.row_places.specs.declared.whole.Row.{Row}
 use Rattle.mover_written.specs.Carry.{Growth, Told, bits, is_written, row_at, bucket_at, total, source, target, carry_refusal, carry_reply, carry_words}
 use Rattle.mover_written.specs.Steps.{from_of, to_of, Stepped}
 use Rattle.mover_written.specs.declared.Step.{Step}

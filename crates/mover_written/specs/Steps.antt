@@ -1,6 +1,6 @@
 -- What a call is to do on a sound table, as the code has it. Assumes nothing.
 use Rattle.std.specs.Prelude.{ℕ, ◌<◌, ◌≡◌, true, false, List}
-use Rattle.row_places.specs.declared.Row.{Row}
+use Rattle.row_places.specs.declared.whole.Row.{Row}
 use Rattle.mover_written.specs.Carry.{Growth, Told, total, word_at, carry_refusal, carry_reply, carry_words}
 use Rattle.mover_written.specs.declared.Step.{Step}
 

@@ -19,7 +19,8 @@ use Rattle.model.proofs.Growths.{accepted, some_more}
 use Rattle.model.proofs.Rows.{row_at_lem, rows_falls, end_within, lent_place, moved_place}
 use Rattle.table.specs.Placing.{placing, placing_at, Places, slot_of}
 use Rattle.table.specs.declared.Placing.{Placing}
-use Rattle.row_places.specs.Rows.{Listed, RowBucket, whole_row}
+use Rattle.row_places.specs.Rows.{Listed, RowBucket, places_of, whole_row}
+use Rattle.row_places.specs.declared.whole.Row.{Row}
 
 module _ (h : Header) (a : Arrays) (s : Shape) (q : ℕ) (d : Listed h a s q) (i x : ℕ) (f : RowBucket h a s q i x) where
   falls : some_fall (table h a) s ≡ true
@@ -79,12 +80,17 @@ module _ (h : Header) (a : Arrays) (s : Shape) (q : ℕ) (d : Listed h a s q) (i
             );
       }
 
-  pub row_places_lem
+  pub whole_row_lem
       : (old new : Placing) → old ≡ placing_at a i → new ≡ placing (bins (table h a)) (s.bins - bins (table h a)) 0
       → record { bucket = x; old = slot_of old x; new = slot_of new q } ≡ whole_row (get_or (rows_of h a s) q [])
   unfolding rows_of row table
-  row_places_lem old new e e' =
+  whole_row_lem old new e e' =
       let same = ap (λ n. get_or (rows (table h a) (expanded (table h a) s)) n []) (sym f.order) ∙ row_at_lem (table h a) (expanded (table h a) s) x inside f.moves in
       let (at, place) = lent_place h a d.formed i x f.interval f.start f.end in
       let (at', place') = moved_place h a s d.formed d.asked falls x inside f.moves in
       rw (same, e, e', at, place, at', place', f.order, sub-zero q) refl
+
+  pub row_places_lem
+      : (old new : Placing) → old ≡ placing_at a i → new ≡ placing (bins (table h a)) (s.bins - bins (table h a)) 0
+      → record { old = slot_of old x; new = slot_of new q } ≡ places_of (get_or (rows_of h a s) q [])
+  row_places_lem old new e e' = ap (λ (r : Row). record { old = r.old; new = r.new }) (whole_row_lem old new e e')

@@ -7,8 +7,8 @@ use Rattle.model.specs.Sound.{Formed}
 use Rattle.model.specs.Expansion.{due_after, expanded, differs}
 use Rattle.model.specs.Calls.{growth_tests, rows_of}
 use Rattle.model.specs.declared.table.Header.{Header}
-use Rattle.row_places.specs.declared.Row.{Row}
 use Rattle.row_places.specs.declared.RowPlaces.{RowPlaces}
+use Rattle.row_places.specs.declared.whole.Row.{Row}
 
 -- an accepted growth of a formed table, and the order number q of one of its rows
 pub record Listed (h : Header) (a : Arrays) (s : Shape) (q : ℕ) : Type 0 where
@@ -30,7 +30,7 @@ pub record RowBucket (h : Header) (a : Arrays) (s : Shape) (q i x : ℕ) : Type 
   pub moves : differs (table h a) (expanded (table h a) s) x ≡ true
   pub order : count (differs (table h a) (expanded (table h a) s)) x ≡ q
 
--- a row: its bucket, and its two places
+-- a whole row: its bucket, and its two places
 abbrev pub whole_row : List ℕ → Row
 whole_row row =
     record {

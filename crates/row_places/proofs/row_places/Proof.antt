@@ -1,4 +1,4 @@
--- `row_places::row_of` meets its contract: the bucket found, and its slots. Assumes nothing.
+-- `row_places::row_places` meets its contract: the slots of the bucket found. Assumes nothing.
 use Prim.Native.Nat.{◌-◌, ◌<◌}
 use mathlib.Core.Path.{sym, ◌∙◌, ap, ap₂, subst}
 use native.Mathlib.Nat.{lt_of_lt_of_le}
@@ -8,8 +8,8 @@ use Rattle.model.proofs.Wells.{lent_tops}
 use Rattle.table.specs.Placing.{placing, Places}
 use Rattle.row_places.specs.Rows.{Listed, RowBucket}
 use Rattle.row_places.proofs.Places.{block_bounds, bins_rise, old_places_lem, new_places_lem, row_places_lem}
-use Rattle.row_places.proofs.row_of.Statement.{statement}
-use Rattle.row_places.proofs.row_of.Tie as tie
+use Rattle.row_places.proofs.row_places.Statement.{statement}
+use Rattle.row_places.proofs.row_places.Tie as tie
 
 -- the function's entry, the arrays lent and the sizes asked for
 abbrev start : tie.After-bucket_of-moved → tie.Start
@@ -89,12 +89,12 @@ slot-of-requires-2 c κs =
 returns : tie.Need-returns
 returns c =
     let at = c.before.before.before.before.before.before in
-    ap₂ (λ o n. record { bucket = at.bucket_of-moved.result.bucket; old = o; new = n }) c.slot_of.ensures c.slot_of-2.ensures
+    ap₂ (λ o n. record { old = o; new = n }) c.slot_of.ensures c.slot_of-2.ensures
     ∙ row_places_lem _ _ _ _ (listed (start at)) _ _ (found at) _ _ c.placing_of-old.ensures.0
     (ap (λ n. placing n ((start at).args.bins - n) 0) (c.bin_count-old_bins.ensures _ _ _))
 
-pub row_of_spec : {M : Type 1} → statement M
-row_of_spec =
+pub row_places_spec : {M : Type 1} → statement M
+row_places_spec =
     tie.close
     (tie.spec
     bucket-of-requires
