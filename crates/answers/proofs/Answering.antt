@@ -13,9 +13,9 @@ module _
     {m : Machine} {k : Rack} {bytes : List ℕ} {put : ℕ} {out : List ℕ} {m' : Machine} {k' : Rack} {put' : ℕ} {out' : List ℕ}
     (w : Went m k bytes put out m' k' put' out')
   where
-    pub answers_done : Idle (stands m' k' bytes) → Answers m k bytes put out (record { machine = m'; put = put'; more = false }) k' out'
+    pub answers_done : Idle (stands m' k' bytes) → Answers m k bytes put out m' k' (record { put = put'; more = false }) out'
     answers_done i = record { went = w; done = λ e. i; more = λ e. absurd (false≢true e) }
 
     pub answers_more
-        : m.from < m'.from + put' → Answers m k bytes put out (record { machine = m'; put = put'; more = true }) k' out'
+        : m.from < m'.from + put' → Answers m k bytes put out m' k' (record { put = put'; more = true }) out'
     answers_more h = record { went = w; done = λ e. absurd (true≢false e); more = λ e. h }

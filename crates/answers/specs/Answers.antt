@@ -8,7 +8,7 @@ use Rattle.wheres.specs.Wheres.{Went}
 use Rattle.pages.specs.declared.After.{After}
 
 -- the lines of the bytes answered
-pub record Answers (m : Machine) (k : Rack) (bytes : List ℕ) (put : ℕ) (out : List ℕ) (r : After) (k' : Rack) (out' : List ℕ) : Type 0 where
-  pub went : Went m k bytes put out r.machine k' r.put out'
-  pub done : r.more ≡ false → Idle (stands r.machine k' bytes)
-  pub more : r.more ≡ true → m.from < r.machine.from + r.put
+pub record Answers (m : Machine) (k : Rack) (bytes : List ℕ) (put : ℕ) (out : List ℕ) (m' : Machine) (k' : Rack) (r : After) (out' : List ℕ) : Type 0 where
+  pub went : Went m k bytes put out m' k' r.put out'
+  pub done : r.more ≡ false → Idle (stands m' k' bytes)
+  pub more : r.more ≡ true → m.from < m'.from + r.put

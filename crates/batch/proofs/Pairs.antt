@@ -13,7 +13,6 @@ use Rattle.model.proofs.Mapped.{mapped_length, mapped_append, mapped_next}
 use Rattle.model.proofs.Entries.{Put, put_none, put_more, sets_more}
 use Rattle.model.proofs.Batches.{falls_not}
 use Rattle.model.specs.Refusal.{falls}
-use Rattle.reciprocal.specs.declared.Reciprocal.{Reciprocal}
 use Rattle.table.specs.declared.Placing.{Placing}
 use Rattle.batch.specs.Slots.{slot_pair, slot_pairs, Placeable, Placed}
 
@@ -57,20 +56,16 @@ module _ {p : Placing} {end : ℕ} {xs : List ℕ} {from i : ℕ} {old out : Lis
   pub filling_at : {j : ℕ} → i ≡ j → Filling p end xs from j old out
   filling_at e = subst (λ k. Filling p end xs from k old out) e f
 
-  pub filling_ends : Placed p end xs from i old out
-  filling_ends = record { on = f.on; within = f.within; below = f.below; holds = f.put.holds }
-
 -- WHAT IS ASKED OF THE BUCKETS
 
 -- of the later ones, and of a list of the same length to write to
 pub placeable_later
-    : {p : Placing} {by : Reciprocal} {xs : List ℕ} {from i : ℕ} {out out' : List ℕ} → from ≤ i → length out' ≡ length out
-    → Placeable p by xs from out → Placeable p by xs i out'
+    : {p : Placing} {xs : List ℕ} {from i : ℕ} {out out' : List ℕ} → from ≤ i → length out' ≡ length out
+    → Placeable p xs from out → Placeable p xs i out'
 placeable_later l e a =
     record {
       rise = a.rise;
       places = λ k b c. a.places k (omega arith) c;
-      divides = a.divides;
       room = omega (arith, a.room);
     }
 

@@ -1,10 +1,15 @@
 -- Laws of the walk to a bucket's interval: the intervals that the bucket is past. Assumes nothing.
-use Prim.Native.Nat.{ℕ, ◌+◌, ◌-◌, ◌≤◌, ◌<◌}
+use Prim.Native.Nat.{ℕ, zero, suc, ◌+◌, ◌-◌, ◌≤◌, ◌<◌}
 use mathlib.Core.Path.{◌≡◌, ap}
 use mathlib.Core.List.{List}
 use mathlib.Core.Logic.{⊎_elim}
 use native.Mathlib.Omega.{arith}
-use lib.ListN.{get_or}
+use lib.ListN.{length, get_or, take, drop, length-drop}
+use lib.Seq.{get_or-drop}
+use native.Mathlib.Numerals.{add-one}
+use borrow.Author.Tests.{le-leb, lt-leb}
+use Rattle.std.proofs.Common.{leb, count_by}
+use Rattle.std.proofs.lemmas.List.Sums.{count_by_more_no, count_by_more_yes}
 use Rattle.model.specs.Basics.{before}
 use Rattle.model.proofs.Counts.{below_or}
 use Rattle.model.proofs.Intervals.{Rising, before_mono}
@@ -75,19 +80,35 @@ passing_ends {ends} {n} {from} {bucket} {count} {most} m s =
           (below_or count most);
     }
 
--- fewer intervals from the first on, and more
-pub ends_fewer : {ends : List ℕ} {k : ℕ} (n : ℕ) → n ≤ k → Ends ends k → Ends ends n
-ends_fewer n l e = record { long = omega (arith, e.long); rise = λ i m. e.rise i (omega arith) }
+-- of i ends from place `from` on, counted
+passing_counted
+    : (ends : List ℕ) (from bucket i : ℕ) → Ends ends (length ends) → from + i ≤ length ends → before ends from ≤ bucket
+    → Passing ends from bucket (count_by (λ end. leb end bucket) (take i (drop from ends))) i
+passing_counted ends from bucket zero e l b = passing_none ends from bucket b
+passing_counted ends from bucket (suc i) e l b =
+    let rest = drop from ends in
+    let inside : i < length rest = omega (arith, length-drop from ends) in
+    let s = passing_counted ends from bucket i e (omega arith) b in
+    rw (← add-one i)
+    (⊎_elim
+    (λ (k : bucket < get_or ends (from + i) 0).
+    let no = count_by_more_no (λ end. leb end bucket) rest i 0 inside (rw (get_or-drop from ends i 0) (lt-leb _ _ k)) in
+    rw no (passing_same e.rise (omega arith) s k))
+    (λ (k : get_or ends (from + i) 0 ≤ bucket).
+    let yes = count_by_more_yes (λ end. leb end bucket) rest i 0 inside (rw (get_or-drop from ends i 0) (le-leb _ _ k)) in
+    rw yes (passing_more e.rise (omega arith) s k))
+    (below_or bucket (get_or ends (from + i) 0)))
 
-pub among_more : {ends : List ℕ} {n bucket low count : ℕ} (k : ℕ) → n ≤ k → Among ends n bucket low count → Among ends k bucket low count
-among_more k l m = record { some = m.some; within = omega (arith, m.within); from = m.from; to = m.to }
-
--- those from place i on, one more than n, where the bucket is not before them, and before the end of the last
-pub among_last
-    : (ends : List ℕ) (bucket i n : ℕ) → before ends i ≤ bucket → bucket < get_or ends (i + n) 0 → Among ends (i + n + 1) bucket i (n + 1)
-among_last ends bucket i n from to =
-    let last : i + (n + 1) ≡ i + n + 1 = omega arith in
-    record { some = omega arith; within = omega arith; from = from; to = omega (arith, ap (before ends) last, before_next ends (i + n)) }
+-- of m intervals from place i on and one more, the bucket's is the one past those that are counted
+pub among_counted
+    : (ends : List ℕ) (bucket i m r : ℕ) → Ends ends (length ends) → i + m < length ends → before ends i ≤ bucket
+    → bucket < get_or ends (i + m) 0 → r ≡ count_by (λ end. leb end bucket) (take m (drop i ends))
+    → Among ends (length ends) bucket (i + r) 1
+among_counted ends bucket i m r e l from to counted =
+    let last : i + (m + 1) ≡ i + m + 1 = omega arith in
+    passing_ends {most = m}
+    (record { some = omega arith; within = omega arith; from = from; to = omega (arith, ap (before ends) last, before_next ends (i + m), to) })
+    (rw counted (passing_counted ends i bucket m e (omega arith) from))
 
 -- past the end before place j
 pub Is_among_later

@@ -1,5 +1,5 @@
 -- Laws of the walk of a formed table's intervals for a list of buckets that does not fall. Assumes nothing.
-use Prim.Native.Nat.{ℕ, ◌+◌, ◌-◌, ◌*◌, ◌^◌, ◌≤◌, ◌<◌}
+use Prim.Native.Nat.{ℕ, ◌+◌, ◌-◌, ◌*◌, ◌≤◌, ◌<◌}
 use mathlib.Core.Path.{◌≡◌, refl, sym, ◌∙◌, ap, ap₂, subst}
 use mathlib.Core.Bool.{false}
 use mathlib.Core.List.{List, [], ◌∷◌, ◌++◌}
@@ -15,14 +15,13 @@ use Rattle.model.specs.Sound.{Formed}
 use Rattle.model.specs.declared.table.Header.{Header}
 use Rattle.model.proofs.Counts.{below_or}
 use Rattle.model.proofs.Batches.{falls_not}
+use Rattle.model.proofs.Intervals.{before_mono}
 use Rattle.model.proofs.Entries.{Put, put_none, put_more, put_over}
 use Rattle.model.proofs.Mapped.{mapped_length, mapped_append, mapped_same}
 use Rattle.model.proofs.Rows.{lent_place}
 use Rattle.model.proofs.Rules.{before_next}
 use Rattle.lookup.specs.Search.{Among}
 use Rattle.lookup.proofs.Searches.{adjustment_below}
-use Rattle.reciprocal.specs.Divides.{Divides}
-use Rattle.reciprocal.specs.declared.Reciprocal.{Reciprocal}
 use Rattle.table.specs.Placing.{placing_at}
 use Rattle.table.specs.declared.Placing.{Placing}
 use Rattle.batch.specs.Slots.{slot_pair, slot_pairs, Placeable, Placed, Stops}
@@ -68,16 +67,18 @@ module _
     found_within = omega (arith, m.within)
 
     pub found_placeable
-        : {p : Placing} {by : Reciprocal} {out : List ℕ} → p ≡ placing_at a j → p.first + p.bins < 2 ^ 32 → Divides by p.bins
-        → 2 * length xs ≤ length out → Placeable p by xs i out
-    found_placeable e fits divides room =
+        : {p : Placing} {out : List ℕ} → p ≡ placing_at a j → 2 * length xs ≤ length out → Placeable p xs i out
+    found_placeable e room =
+        let block = formed.blocks_below j found_within in
+        let top = before_mono a.tops h.block_count formed.tops_rise h.block_count (get_or a.blocks j 0 + 1) (omega (arith, block)) (omega arith) in
+        let next = before_next a.tops (get_or a.blocks j 0) in
         record {
           rise = asked.0;
           places =
               λ k b c.
               record {
-                some = omega (arith, ap (λ p. p.bins) e, formed.tops_rise _ (formed.blocks_below j found_within));
-                fits = fits;
+                some = omega (arith, ap (λ p. p.bins) e, formed.tops_rise _ block);
+                fits = omega (arith, ap (λ p. p.first + p.bins) e, formed.tops_rise _ block, top, next, formed.bin_limit);
                 ranked =
                     omega (
                       arith,
@@ -88,7 +89,6 @@ module _
                     );
                 limit = omega (arith, asked.1 k c, formed.bucket_limit);
               };
-          divides = divides;
           room = room;
         }
 

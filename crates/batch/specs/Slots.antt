@@ -3,8 +3,6 @@ use Rattle.std.specs.Prelude.{ℕ, ◌-◌, ◌*◌, ◌≤◌, ◌<◌, ◌≡�
 use Rattle.std.proofs.lemmas.List.Edits.{sets}
 use Rattle.model.specs.Basics.{joined}
 use Rattle.model.specs.Refusal.{falls}
-use Rattle.reciprocal.specs.Divides.{Divides}
-use Rattle.reciprocal.specs.declared.Reciprocal.{Reciprocal}
 use Rattle.table.specs.Placing.{Places, slot_of}
 use Rattle.table.specs.declared.Placing.{Placing}
 
@@ -15,11 +13,10 @@ slot_pair p x = (slot_of p x).bin ∷ (slot_of p x).position ∷ []
 abbrev pub slot_pairs : Placing → List ℕ → List ℕ
 slot_pairs p xs = joined (map (slot_pair p) xs)
 
--- the buckets of a list from number `from` on can be placed by p, in whose bins `by` divides, and there is room for the places of all
-pub record Placeable (p : Placing) (by : Reciprocal) (xs : List ℕ) (from : ℕ) (out : List ℕ) : Type 0 where
+-- the buckets of a list from number `from` on can be placed by p, and there is room for the places of all
+pub record Placeable (p : Placing) (xs : List ℕ) (from : ℕ) (out : List ℕ) : Type 0 where
   pub rise : falls xs ≡ false
   pub places : (k : ℕ) → from ≤ k → k < length xs → Places p (get_or xs k 0)
-  pub divides : Divides by p.bins
   pub room : 2 * length xs ≤ length out
 
 -- the buckets from number `from` up to r are below `end`; `out` is `old` with their places written into it

@@ -1,50 +1,33 @@
 -- A machine that begins, bytes received, and the first bytes of an unfinished line kept. Assumes nothing.
 use Prim.Native.Nat.{ℕ, ◌+◌, ◌-◌, ◌≤◌, ◌<◌}
-use mathlib.Core.Path.{◌≡◌, refl, sym, ◌∙◌, ap, subst}
-use mathlib.Core.Bool.{false, true≢false, false≢true}
-use mathlib.Core.Logic.{◌⊎◌, ⊎_elim}
+use Rattle.std.specs.Prelude.{min}
+use mathlib.Core.Path.{◌≡◌, refl, sym, ◌∙◌, ap, ap₂}
+use mathlib.Core.Bool.{false}
 use mathlib.Core.List.{List, [], ◌∷◌, ◌++◌}
 use native.Mathlib.Numerals.{add-one}
 use native.Mathlib.Omega.{arith}
-use lib.ListN.{length, get_or, set, take, drop, length-take, length-drop, length-set, drop_of_length-le}
-use lib.Seq.{take_all, take-add, take-suc-set, length-take-le, drop-append-le, get_or-take, get_or-drop, get_or-append-add}
-use Rattle.model.specs.Basics.{if◌then◌otherwise◌}
+use lib.ListN.{length, set, take, drop, length-take, length-drop, length-set, drop_of_length-le}
+use lib.Seq.{take-add, take-suc-set, length-take-le, drop-append-le}
 use Rattle.model.specs.Table.{over}
-use Rattle.model.proofs.Entries.{Put, put_none, put_more, put_over}
+use Rattle.std.specs.List.{copy_within}
+use Rattle.std.proofs.lemmas.List.{drop-take, take-take, take_min}
 use Rattle.lines.specs.Words.{up_to}
-use Rattle.session.specs.Maps.{is_empty, is_grown, session_at, session}
-use Rattle.session.specs.declared.state.Stage.TheVariants.{Empty}
-use Rattle.print.proofs.Stores.{take_next}
-use Rattle.console.specs.Rack.{rack, held}
+use Rattle.model.specs.Console.{empty}
+use Rattle.session.specs.Maps.{session}
+use Rattle.console.specs.Rack.{Rack, held}
 use Rattle.standing.specs.Standing.{heard}
-use Rattle.buffers.specs.Machine.{kept_bytes, stands, bytes_of, Begins, Receives}
+use Rattle.buffers.specs.Machine.{kept_bytes, lists, row_of, stands, bytes_of, Sane, Begins, Receives}
 use Rattle.buffers.specs.declared.Machine.{Machine}
 
--- a machine that begins
+-- a machine that begins, by a rack with no map
 pub begins
-    : (r : Machine) → r.from ≡ 0 → r.size ≡ 0 → r.row ≡ 0 → r.listing ≡ false → r.state.stage ≡ Empty → r.state.flipped ≡ false
-    → Begins r
-unfolding stands session session_at held if◌then◌otherwise◌ is_empty is_grown up_to
-begins r f z q l e g =
+    : (r : Machine) (k : Rack) → r.from ≡ 0 → r.size ≡ 0 → lists r ≡ false → row_of r ≡ 0 → session (held k) ≡ empty → Sane r k
+    → Begins r k
+unfolding stands up_to session
+begins r k f z l q e sane =
     record {
-      stands = λ one two block. rw (f, z, q, l, g, e);
-      ready = λ one two block x y.
-          record {
-            sane =
-                record {
-                  right =
-                      rw g
-                      (record {
-                        room = x;
-                        other_room = y;
-                        sound = λ n. absurd (true≢false (sym (ap is_empty e) ∙ n));
-                        grown = λ n. absurd (false≢true (sym (ap is_grown e) ∙ n));
-                      });
-                  row = λ n. absurd (false≢true (sym l ∙ n));
-                };
-            from = omega arith;
-            size = omega arith;
-          };
+      stands = λ block. rw (f, z, l, q, e);
+      ready = λ block. record { sane = sane; from = omega arith; size = omega arith };
       rests = λ block. record { listing = l; rest = rw (f, z); few = omega arith };
     }
 
@@ -104,7 +87,7 @@ module _ (from size : ℕ) (block : List ℕ) (low : from ≤ size) (high : size
 -- the machine, with the bytes up to another place
 module _ (m : Machine) (got size : ℕ) (block : List ℕ) (low : m.from ≤ m.size) (high : m.size ≤ length block) where
   abbrev next : Machine
-  next = record { state = m.state; listing = m.listing; row = m.row; from = m.from; size = size }
+  next = record { listing = m.listing; from = m.from; size = size }
 
   receives
       : (block' : List ℕ) → m.size ≤ size → size ≤ length block'
@@ -114,10 +97,8 @@ module _ (m : Machine) (got size : ℕ) (block : List ℕ) (low : m.from ≤ m.s
   unfolding stands
   receives block' up within e =
       record {
-        stands = λ one two.
-            ap
-            (λ (r : List ℕ). record { listing = m.listing; row = m.row; session = session (held (rack m.state one two)); rest = r }) e;
-        ready = λ one two r.
+        stands = λ k. ap (λ (r : List ℕ). record { listing = lists m; row = row_of m; session = session (held k); rest = r }) e;
+        ready = λ k r.
             record {
               sane = record { right = r.sane.right; row = r.sane.row };
               from = omega (arith, r.from);
@@ -144,60 +125,23 @@ module _ (m : Machine) (got size : ℕ) (block : List ℕ) (low : m.from ≤ m.s
 
 -- THE FIRST BYTES KEPT
 
--- `kept` of the bytes from place `from` to place `size` are at the front
-pub record Kept (from size : ℕ) (old : List ℕ) (kept : ℕ) (block : List ℕ) : Type 0 where
-  pub few : kept ≤ kept_bytes
-  pub within : from + kept ≤ size
-  pub high : size ≤ length old
-  pub put : Put 0 kept (take kept (drop from (take size old))) old block
+-- as many as are kept, or all that are left
+module _ (from size kept : ℕ) (block : List ℕ) (low : from ≤ size) (high : size ≤ length block) (k : kept ≡ min kept_bytes (size - from)) where
+  abbrev first : List ℕ
+  first = take kept_bytes (drop from (take size block))
 
-pub kept_none : (from size : ℕ) (old : List ℕ) → from ≤ size → size ≤ length old → Kept from size old 0 old
-kept_none from size old low high = record { few = omega arith; within = omega arith; high = high; put = put_none 0 old }
+  pub kept_length : kept ≡ length first
+  kept_length = k ∙ sym (length-take kept_bytes (rest from size block low high) ∙ ap (min kept_bytes) (rest_length from size block low high))
 
-module _ {from size : ℕ} {old : List ℕ} {kept : ℕ} {block : List ℕ} (k : Kept from size old kept block) where
-  abbrev left : List ℕ
-  left = drop from (take size old)
+  kept_front : take kept (drop from block) ≡ first
+  kept_front =
+      sym (take-take kept (size - from) (drop from block) (omega arith))
+      ∙ ap (take kept) (sym (drop-take from (size - from) block) ∙ ap (λ n. drop from (take n block)) (omega arith))
+      ∙ ap (λ n. take n (rest from size block low high)) (k ∙ ap (min kept_bytes) (sym (rest_length from size block low high)))
+      ∙ take_min kept_bytes (rest from size block low high)
 
-  left_length : length left ≡ size - from
-  left_length = rest_length from size old (omega (arith, k.within)) k.high
-
-  -- the byte that stands where it stood
-  here : from + kept < size → get_or block (from + kept) 0 ≡ get_or left kept 0
+  pub kept_over : copy_within block from (from + kept) 0 ≡ over first block
   unfolding over
-  here l =
-      let front : length (take kept left) ≡ kept = length-take-le kept left (omega (arith, left_length)) in
-      let place : from + kept ≡ length (take kept left) + from = omega arith in
-      ap (λ (b : List ℕ). get_or b (from + kept) 0) (put_over k.put (omega (arith, k.within, k.high)))
-      ∙ ap (λ n. get_or (over (take kept left) old) n 0) place
-      ∙ get_or-append-add (take kept left) (drop (length (take kept left)) old) from 0
-      ∙ get_or-drop (length (take kept left)) old from 0
-      ∙ ap (λ n. get_or old n 0) (sym place)
-      ∙ sym (get_or-drop from (take size old) kept 0 ∙ get_or-take size old (from + kept) 0 l)
-
-  -- one more
-  pub Kept_more
-      : kept < kept_bytes → (from + kept ≡ size → ⊥)
-      → Kept from size old (kept + 1) (set block kept (get_or block (from + kept) 0))
-  Kept_more h n =
-      let l : from + kept < size = omega (arith, k.within, n) in
-      record {
-        few = omega arith;
-        within = omega arith;
-        high = k.high;
-        put =
-            subst (λ (new : List ℕ). Put 0 (kept + 1) new old (set block kept (get_or block (from + kept) 0)))
-            (ap (λ v. take kept left ++ (v ∷ [])) (here l) ∙ sym (take_next left kept (omega (arith, left_length))))
-            (put_more k.put (get_or block (from + kept) 0 ∷ []) refl refl);
-      }
-
-  -- as many as are kept, or all
-  pub kept_all : kept_bytes ≤ kept ⊎ (from + kept ≡ size) → (kept ≡ length (take kept_bytes left)) × (block ≡ over (take kept_bytes left) old)
-  kept_all e =
-      let all : take kept left ≡ take kept_bytes left =
-      ⊎_elim
-      (λ h. let same : kept ≡ kept_bytes = omega (arith, k.few) in ap (λ n. take n left) same)
-      (λ h. take_all kept left (omega (arith, left_length)) ∙ sym (take_all kept_bytes left (omega (arith, left_length, k.few))))
-      e in (
-        omega (arith, ap length all, length-take-le kept left (omega (arith, left_length, k.within))),
-        put_over k.put (omega (arith, k.within, k.high)) ∙ ap (λ (new : List ℕ). over new old) all,
-      )
+  kept_over =
+      let n : (from + kept) - from ≡ kept = omega arith in
+      rw n (ap₂ (λ (a : List ℕ) (i : ℕ). a ++ drop i block) kept_front (omega (arith, kept_length)))

@@ -1,13 +1,13 @@
 // The machine's state and the sizes of its buffers: it begins, a block is received, and an unfinished line is kept.
 #![tactic(auto)]
 
+pub mod program;
+
 ghost use Rattle.std.specs.Prelude.{◌≡◌, ◌+◌, ◌≤◌, ◌<◌, length};
 ghost use Rattle.model.specs.Table.{over};
-ghost use Rattle.buffers.specs.Machine.{unfinished, keeping, Rests, Begins, Receives};
+ghost use Rattle.buffers.specs.Machine.{unfinished, keeping, Rests, Receives};
 
-use model::table::Header;
 use print::{LINE, MOVE};
-use session::state::{Stage, State};
 
 // The bytes kept of an unfinished line: more than a readable line has.
 pub const KEPT: usize = 65;
@@ -25,40 +25,13 @@ pub const LAST: usize = MOVE * ROWS;
 
 pub const OUT: usize = LAST + LINE;
 
-// The session's state; whether a move list is in progress, and its next row; and the bytes of the block that are read and not yet
-// answered: from place `from` to place `size`.
+// The next row of the move list in progress, if there is one; and the bytes of the block that are read and not yet answered: from
+// place `from` to place `size`.
 #[derive(Clone, Copy)]
 pub struct Machine {
-    pub state: State,
-    pub listing: bool,
-    pub row: u32,
+    pub listing: Option<u32>,
     pub from: usize,
     pub size: usize,
-}
-
-// No map yet, and nothing read.
-pub fn start() -> Machine
-    ensures { Begins result }
-{
-    let none = Header {
-        buckets: 0,
-        capacity: 0,
-        block_count: 0,
-        interval_count: 0,
-    };
-    Machine {
-        state: State {
-            stage: Stage::Empty,
-            flipped: false,
-            bins: 0,
-            current: none,
-            before: none,
-        },
-        listing: false,
-        row: 0,
-        from: 0,
-        size: 0,
-    }
 }
 
 // What is read behind the bytes that are left, `got` bytes; or, where none are read, the input has ended: a line feed then ends an
@@ -87,14 +60,8 @@ pub fn keep(mut m: Machine, block: &mut [u8]) -> Machine
     ensures block_after { block.new ≡ over (unfinished m block.old) block.old }
 {
     let from = m.from;
-    let mut kept = 0;
-    while kept < KEPT {
-        if from + kept == m.size {
-            break;
-        }
-        block[kept] = block[from + kept];
-        kept += 1;
-    }
+    let kept = KEPT.min(m.size - from);
+    block.copy_within(from..from + kept, 0);
     m.from = 0;
     m.size = kept;
     m

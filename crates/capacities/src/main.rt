@@ -2,8 +2,8 @@
 // call, its arguments and then its whole reply.
 #![tactic(auto)]
 
+mod calls;
 mod capacity;
-mod grow;
 mod keep;
 mod print;
 

@@ -1,6 +1,6 @@
 -- Laws of the pages of a move list: rows as numbers, and as lines. Assumes nothing.
 use Prim.Native.Nat.{ℕ, zero, suc, ◌+◌, ◌*◌, ◌/◌, ◌≤◌}
-use mathlib.Core.Path.{◌≡◌, refl, sym, ◌∙◌, ap, ap₂}
+use mathlib.Core.Path.{◌≡◌, refl, sym, ◌∙◌, ap, ap₂, subst}
 use mathlib.Core.Bool.{false, true≢false}
 use mathlib.Core.List.{List, [], ◌∷◌, ◌++◌, map, map-append, append-nil}
 use native.Mathlib.Decide.{ℕ_discrete}
@@ -214,3 +214,10 @@ pub moves_grown
     : (m : Maps) → m.state.stage ≡ stage.Grown → GrownFrom m → moves_of (session m) ≡ growth_rows (before_of m) (sizes_of m.state)
 unfolding moves_of session session_at
 moves_grown m e g = ap (λ st. moves_of (session_at st (before_of m) (map_of m))) e ∙ ap (rows (before_of m)) g.made
+
+-- a page's reply is one on the same table, and the same reply is one
+pub page_reply
+    : {t u : Table} {s : Shape} {q : ℕ} {buffer left : List ℕ} {r z : RelocationsReply}
+    → t ≡ u → z ≡ r → MovesReply t s q buffer left r → MovesReply u s q buffer left z
+page_reply {t} {u} {s} {q} {buffer} {left} {r} {z} e f g =
+    subst (λ t. MovesReply t s q buffer left z) e (subst (MovesReply t s q buffer left) (sym f) g)

@@ -19,6 +19,7 @@ use Rattle.session.specs.Maps.{maps, is_grown, before_of, session, next, shown, 
 use Rattle.session.specs.declared.state.Stage.TheVariants.{Grown}
 use Rattle.session.specs.declared.state.State.{State}
 use Rattle.session.specs.declared.state.Step.{Step}
+use Rattle.session.proofs.Rights.{right_next}
 use Rattle.session.proofs.Steps.{step_flipped}
 use Rattle.print.specs.Numbers.{line_room}
 use Rattle.print.proofs.Lines.{line_short}
@@ -28,17 +29,15 @@ use Rattle.console.specs.declared.Reply.{Reply}
 use Rattle.console.specs.declared.Page.{Page}
 use Rattle.console.proofs.Rows.{none_listed, moves_none, moves_grown}
 
--- what a step is answered with, behind place x
-abbrev pub replied : Step → ℕ → Reply
-replied d x = record { state = d.state; at = x; list = is_list d.answer }
+-- an answer's reply, with what it prints up to place y
+abbrev pub replied : Answer → ℕ → Reply
+replied a y = record { at = y; list = is_list a }
 
 -- an answer that prints vs, from place x up to place y, and no list
 pub told_reply
-    : (d : Step) (x y : ℕ) (old new vs : List ℕ) → shown d.answer ≡ vs → is_list d.answer ≡ false → y ≡ x + length vs
-    → new ≡ sets old x vs
-    → (record { state = d.state; at = y; list = false } ≡ replied d (x + length (shown d.answer)))
-    × (new ≡ sets old x (shown d.answer))
-told_reply d x y old new vs e l p b = rw (e, l, p, b) (refl, refl)
+    : (a : Answer) (x y : ℕ) (old new vs : List ℕ) → shown a ≡ vs → is_list a ≡ false → y ≡ x + length vs → new ≡ sets old x vs
+    → (record { at = y; list = false } ≡ replied a (x + length (shown a))) × (new ≡ sets old x (shown a))
+told_reply a x y old new vs e l p b = rw (e, l, p, b) (refl, refl)
 
 -- what is printed at once is short
 pub shown_short : (a : Answer) → length (shown a) ≤ line_room
@@ -49,19 +48,17 @@ shown_short (Place y p) = omega (arith, line_short "place" (y ∷ p ∷ []))
 shown_short (Bucket x) = omega (arith, line_short "bucket" (x ∷ []))
 shown_short Moves = omega arith
 
--- a step from the maps that the rack holds, with the tables after it as the rack will hold them
-served
-    : (k : Rack) (l : List ℕ) (c : Command) (d : Step) (this other one two : Arrays) (r : Reply) (x : ℕ) (old new : List ℕ)
-    → c ≡ read l → Stepped (held k) c d this other
-    → held (rack d.state one two)
-    ≡ (if d.flip then maps d.state other this otherwise maps d.state this other)
-    → r ≡ replied d (x + length (shown d.answer)) → new ≡ sets old x (shown d.answer)
-    → Served k l x old r (rack r.state one two) new
+-- a line served: what its command did is answered
+pub served
+    : {k k' : Rack} {l : List ℕ} {c : Command} {a : Answer} {r : Reply} {x : ℕ} {old new : List ℕ} → c ≡ read l
+    → held k' ≡ next (held k) c → a ≡ command_answer (session (held k)) c
+    → r ≡ replied a (x + length (shown a)) → new ≡ sets old x (shown a)
+    → Served k l x old r k' new
 unfolding answer_to
-served k l c d this other one two r x old new q s h e b =
-    let same : d.answer ≡ answer_to k l = s.answer ∙ ap (command_answer (session (held k))) q in
+served {k} {k'} {l} {c} {a} {r} {x} {old} {new} q h s e b =
+    let same : a ≡ answer_to k l = s ∙ ap (command_answer (session (held k))) q in
     record {
-      maps = ap (λ (r : Reply). held (rack r.state one two)) e ∙ h ∙ s.maps ∙ ap (next (held k)) q;
+      maps = h ∙ ap (next (held k)) q;
       list = ap (λ (r : Reply). r.list) e ∙ ap is_list same;
       place = ap (λ (r : Reply). r.at) e ∙ ap (λ a. x + length (shown a)) same;
       bytes = b ∙ ap (λ a. sets old x (shown a)) same;
@@ -94,32 +91,40 @@ module _ (st : State) (one two : Arrays) where
   first_after true e = second_held e
   first_after false e = first_held e
 
-module _
-    (st : State) (one two one' two' : Arrays) (l : List ℕ) (c : Command) (q : c ≡ read l) (d : Step) (r : Reply)
-    (x : ℕ) (old new : List ℕ) (e : r ≡ replied d (x + length (shown d.answer))) (b : new ≡ sets old x (shown d.answer))
-  where
-    pub second_served
-        : st.flipped ≡ true → Stepped (maps st two one) c d two' one'
-        → Served (rack st one two) l x old r (rack r.state one' two') new
-    second_served g s =
-        served (rack st one two) l c d two' one' one' two' r x old new q
-        (subst (λ m. Stepped m c d two' one') (sym (second_held st one two g)) s)
-        (second_after d.state one' two' d.flip
-        (step_flipped (maps st two one) c d two' one' s ∙ ap (λ f. if d.flip then not f otherwise f) g))
-        e b
+-- a step from the maps that the rack holds, with the tables after it as the rack holds them
+module _ (st : State) (one two one' two' : Arrays) (c : Command) (d : Step) where
+  pub second_next
+      : st.flipped ≡ true → Stepped (maps st two one) c d two' one'
+      → (held (rack d.state one' two') ≡ next (held (rack st one two)) c)
+      × (d.answer ≡ command_answer (session (held (rack st one two))) c)
+  second_next g s =
+      let e = second_held st one two g in (
+        second_after d.state one' two' d.flip
+            (step_flipped (maps st two one) c d two' one' s ∙ ap (λ f. if d.flip then not f otherwise f) g)
+            ∙ s.maps
+            ∙ ap (λ m. next m c) (sym e),
+        s.answer ∙ ap (λ m. command_answer (session m) c) (sym e),
+      )
 
-    pub first_served
-        : st.flipped ≡ false → Stepped (maps st one two) c d one' two'
-        → Served (rack st one two) l x old r (rack r.state one' two') new
-    first_served g s =
-        served (rack st one two) l c d one' two' one' two' r x old new q
-        (subst (λ m. Stepped m c d one' two') (sym (first_held st one two g)) s)
-        (first_after d.state one' two' d.flip
-        (step_flipped (maps st one two) c d one' two' s ∙ ap (λ f. if d.flip then not f otherwise f) g))
-        e b
+  pub first_next
+      : st.flipped ≡ false → Stepped (maps st one two) c d one' two'
+      → (held (rack d.state one' two') ≡ next (held (rack st one two)) c)
+      × (d.answer ≡ command_answer (session (held (rack st one two))) c)
+  first_next g s =
+      let e = first_held st one two g in (
+        first_after d.state one' two' d.flip
+            (step_flipped (maps st one two) c d one' two' s ∙ ap (λ f. if d.flip then not f otherwise f) g)
+            ∙ s.maps
+            ∙ ap (λ m. next m c) (sym e),
+        s.answer ∙ ap (λ m. command_answer (session m) c) (sym e),
+      )
+
+-- what a command leaves is sound
+pub right_after : (k k' : Rack) (c : Command) → Right (held k) → held k' ≡ next (held k) c → Right (held k')
+right_after k k' c w e = subst Right (sym e) (right_next (held k) w c)
 
 -- no rows but for a map that has grown
-held_state : (k : Rack) → (held k).state ≡ k.state
+pub held_state : (k : Rack) → (held k).state ≡ k.state
 unfolding held if◌then◌otherwise◌
 held_state k = ⊎_elim (λ t. rw t.0) (λ t. rw t.0) (bit_cases k.state.flipped)
 
@@ -128,6 +133,11 @@ pub none_held
     → Listed (moves_in k) q buffer buffer old old (record { rows = 0; total = 0; length = 0 })
 none_held k q buffer old e =
     rw (moves_none (held k) (ap (λ (st : State). is_grown st.stage) (held_state k) ∙ e)) (none_listed q buffer old)
+
+-- the other table's arrays, by what holds them
+pub other_held : (k : Rack) (other : Arrays) → other ≡ (held k).other → held k ≡ maps k.state (held k).this other
+unfolding held if◌then◌otherwise◌
+other_held k other e = rw e (⊎_elim (λ t. rw t.0) (λ t. rw t.0) (bit_cases k.state.flipped))
 
 -- a page of the maps that a rack holds, of which the map has grown from the table `other`
 module _ (k : Rack) (this other : Arrays) (q : ℕ) (right : Right (held k)) (e : k.state.stage ≡ Grown) (h : held k ≡ maps k.state this other) where

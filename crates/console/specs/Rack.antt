@@ -2,13 +2,13 @@
 use Rattle.std.specs.Prelude.{ℕ, ◌+◌, ◌≡◌, List, length}
 use Rattle.std.proofs.lemmas.List.Edits.{sets}
 use Rattle.model.specs.Basics.{if◌then◌otherwise◌}
-use Rattle.model.specs.Table.{Table, Arrays, arrays}
+use Rattle.model.specs.Table.{Table, Arrays}
 use Rattle.model.specs.Search.{place_at}
 use Rattle.model.specs.Calls.{answer}
 use Rattle.model.specs.Console.{read, moves_of, command_answer}
 use Rattle.model.specs.declared.answer.Answer.{Answer}
 use Rattle.model.specs.declared.answer.Answer.TheVariants as says
-use Rattle.session.specs.Maps.{Maps, maps, session, next, shown, is_list, Right}
+use Rattle.session.specs.Maps.{Maps, maps, session, next, shown, is_list}
 use Rattle.session.specs.declared.state.State.{State}
 use Rattle.console.specs.declared.Reply.{Reply}
 
@@ -23,16 +23,6 @@ rack st one two = record { state = st; one = one; two = two }
 
 unfoldable pub held : Rack → Maps
 held k = if k.state.flipped then maps k.state k.two k.one otherwise maps k.state k.one k.two
-
--- a state and the eight lists of two tables
-abbrev pub rack_of
-    : State → List ℕ → List ℕ → List ℕ → List ℕ → List ℕ → List ℕ → List ℕ → List ℕ → Rack
-rack_of st t e b a t₂ e₂ b₂ a₂ = rack st (arrays t e b a) (arrays t₂ e₂ b₂ a₂)
-
--- both tables have room, and the map is sound
-abbrev pub RackRight
-    : State → List ℕ → List ℕ → List ℕ → List ℕ → List ℕ → List ℕ → List ℕ → List ℕ → Type 0
-RackRight st t e b a t₂ e₂ b₂ a₂ = Right (held (rack_of st t e b a t₂ e₂ b₂ a₂))
 
 -- the rows of the latest growth
 abbrev pub moves_in : Rack → List (List ℕ)

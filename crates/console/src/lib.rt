@@ -1,16 +1,13 @@
-// One line of a session, and its move list, page by page. The caller holds both tables.
+// One line of a session, and its move list, page by page.
 #![tactic(auto)]
 
 pub mod list;
+pub mod rack;
 pub mod step;
 
-use session::state::State;
-
-// After a line: the state, the place behind what was printed, and whether the `move` lines of the latest growth are to be
-// listed.
+// After a line: the place behind what was printed, and whether the `move` lines of the latest growth are to be listed.
 #[derive(Clone, Copy)]
 pub struct Reply {
-    pub state: State,
     pub at: usize,
     pub list: bool,
 }

@@ -2,79 +2,80 @@
 // refused calls. Prints what it counted. The random histories come from a fixed seed, so that a run is like any other.
 #![tactic(auto)]
 
-mod cut;
-mod full;
-mod history;
-mod print;
-mod rack;
-mod refusal;
-mod run;
-mod tally;
-mod total;
-mod words;
-
-use crate::print::{end, number, text};
-use crate::tally::{COMPARISONS, CUTS, END, HISTORIES, RUNS, Tally};
+use cut_tests::{
+    Call, Calls, Case, Growth, LIST, Mover, Plan, Player, Tally, play, play_full, print_cuts,
+    random, wide,
+};
+use model::reply::CarryReply;
 use std::io;
 
-// Words, and the counts from one place up to another.
-fn counts(rt: &impl Print, words: &[u8], tally: &Tally, from: usize, to: usize) -> io::Result<()> {
-    text(rt, words)?;
-    let mut i = from;
-    while i < to {
-        if i < END {
-            number(rt, tally[i])?;
-        }
-        i += 1;
+// The mover without bits: every bucket is written.
+#[derive(Clone, Copy)]
+struct Plain;
+
+impl Mover for Plain {
+    const ALL_BITS: u32 = 0;
+
+    fn bits(&self) -> u32 {
+        0
     }
-    end(rt)
+
+    fn is_written(&self, _bucket: u32) -> bool {
+        true
+    }
+
+    fn carry(&self, growth: &Growth<'_>, words: &mut [u32], call: Call) -> CarryReply {
+        mover::carry(
+            growth.header,
+            &growth.table.tops,
+            &growth.table.ends,
+            &growth.table.blocks,
+            &growth.table.adjustments,
+            growth.buckets,
+            growth.bins,
+            words,
+            call.mark,
+        )
+    }
 }
 
-fn refusals(rt: &impl Print, tally: &Tally) -> io::Result<()> {
-    let mut i: usize = 1;
-    while i < HISTORIES {
-        refused_by(rt, i as u32, tally[i])?;
-        i += 1;
+impl Player for Plain {
+    fn carry(&self, case: &Case<'_, '_, '_>, tally: &mut Tally) {
+        let mut words = [0; LIST];
+        case.carry(Plain, &mut words, tally);
     }
-    Ok(())
+
+    fn refused(&self, growth: &Growth<'_>, number: u32, tally: &mut Tally) {
+        let calls = Calls {
+            growth: *growth,
+            mover: Plain,
+        };
+        calls.wrong(number, tally);
+    }
 }
 
-fn refused_by(rt: &impl Print, i: u32, count: u32) -> io::Result<()> {
-    if count != 0 {
-        text(rt, b"calls refused by")?;
-        number(rt, i)?;
-        number(rt, count)?;
-        end(rt)?;
-    }
-    Ok(())
-}
-
-fn printed(rt: &impl Print, tally: &Tally) -> io::Result<()> {
-    counts(rt, b"histories, growths, rows", tally, HISTORIES, RUNS)?;
-    counts(rt, b"runs with cuts, accepted calls", tally, RUNS, CUTS)?;
-    counts(
-        rt,
-        b"copies cut: old word, new word, junk",
-        tally,
-        CUTS,
-        CUTS + 3,
+fn printed(rt: &impl Print, t: &Tally) -> io::Result<()> {
+    println!(rt;
+        "histories, growths, rows {} {} {}",
+        t.histories, t.growths, t.rows
     )?;
-    counts(
-        rt,
-        b"marks cut: old mark, new mark",
-        tally,
-        CUTS + 3,
-        COMPARISONS,
-    )?;
-    refusals(rt, tally)?;
-    counts(rt, b"comparisons, failed", tally, COMPARISONS, END)
+    println!(rt; "runs with cuts, accepted calls {} {}", t.runs, t.calls)?;
+    print_cuts(rt, t)
 }
 
 fn main(rt: HostRuntime) -> io::Result<()> {
-    let mut tally = [0u32; 54];
-    full::play(&mut tally);
-    refusal::wide(&mut tally);
-    history::play(1, 66, 1, 1, 65, &mut tally);
-    history::random(20_261_115, 400, 12, &mut tally);
+    let mut tally = Tally::default();
+    play_full(&Plain, &mut tally);
+    wide(Plain, &mut tally);
+    let by_bins = Plan {
+        choices: 1,
+        growths: 65,
+    };
+    play(&Plain, 1, 66, 1, by_bins, &mut tally);
+    let of_all = Plan {
+        choices: 8,
+        growths: 12,
+    };
+    random(&Plain, 20_261_115, 400, of_all, &mut tally);
     printed(&rt, &tally)
 }

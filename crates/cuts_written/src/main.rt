@@ -4,95 +4,70 @@
 #![tactic(auto)]
 
 mod bits;
-mod chance;
-mod cut;
-mod full;
-mod history;
+mod flagged;
 mod pattern;
-mod print;
-mod rack;
-mod refusal;
-mod run;
-mod tally;
-mod total;
-mod words;
+mod player;
 
-use crate::history::Plan;
-use crate::print::{counts, refusals};
-use crate::tally::{COMPARISONS, COPIES, CUTS, EDGES, END, HISTORIES, NEAR, RUNS, Tally, WIDER};
+ghost use Rattle.std.specs.Prelude.{◌<◌, ◌≤◌};
+
+use crate::flagged::Flagged;
+use crate::player::{Bare, Told};
+use cut_tests::{Plan, Tally, play, play_full, print_cuts, random, wide};
 use std::io;
+use std::ops::Range;
 
-fn printed(rt: &impl Print, tally: &Tally) -> io::Result<()> {
-    counts(
-        rt,
-        b"histories, growths carried out, rows",
-        tally,
-        HISTORIES,
-        COPIES,
+fn printed(rt: &impl Print, t: &Tally) -> io::Result<()> {
+    let [none, one, last] = t.edges;
+    let [before, at, after] = t.near;
+    println!(rt;
+        "histories, growths carried out, rows {} {} {}",
+        t.histories, t.growths, t.rows
     )?;
-    counts(rt, b"copies, blank rows", tally, COPIES, EDGES)?;
-    counts(
-        rt,
-        b"growths of B modulo 64 of 0, 1, 63",
-        tally,
-        EDGES,
-        WIDER,
+    println!(rt; "copies, blank rows {} {}", t.copies, t.blanks)?;
+    println!(rt; "growths of B modulo 64 of 0, 1, 63 {none} {one} {last}")?;
+    println!(rt; "growths to more words of bits {}", t.wider)?;
+    println!(rt; "rows of buckets 63, 64, 65 {before} {at} {after}")?;
+    println!(rt;
+        "runs with cuts, accepted calls, countings {} {} {}",
+        t.runs, t.calls, t.countings
     )?;
-    counts(rt, b"growths to more words of bits", tally, WIDER, NEAR)?;
-    counts(rt, b"rows of buckets 63, 64, 65", tally, NEAR, RUNS)?;
-    counts(
-        rt,
-        b"runs with cuts, accepted calls, countings",
-        tally,
-        RUNS,
-        CUTS,
-    )?;
-    counts(
-        rt,
-        b"copies cut: old word, new word, junk",
-        tally,
-        CUTS,
-        CUTS + 3,
-    )?;
-    counts(
-        rt,
-        b"marks cut: old mark, new mark",
-        tally,
-        CUTS + 3,
-        COMPARISONS,
-    )?;
-    refusals(rt, tally)?;
-    counts(rt, b"comparisons, failed", tally, COMPARISONS, END)
+    print_cuts(rt, t)
 }
 
-fn plan(choices: u32, growths: u32, given: bool) -> Plan {
-    Plan {
-        choices,
-        growths,
-        given,
+fn plan(choices: u32, growths: u32) -> Plan
+    requires { (0 < choices) × (choices ≤ 8) }
+{
+    Plan { choices, growths }
+}
+
+// Histories with bits, from every number of buckets of a range.
+fn each(seed: u32, range: Range<u32>, bins: u32, plan: Plan, tally: &mut Tally) {
+    let mut seed = seed;
+    for buckets in range {
+        seed = play(&Told, seed, buckets, bins, plan, tally);
     }
 }
 
 // Without bits.
 fn carried(rt: &impl Print) -> io::Result<()> {
-    let mut tally = [0u32; 65];
-    full::play(false, &mut tally);
-    refusal::wide(false, &mut tally);
-    history::play(1, 66, 1, plan(1, 65, false), &mut tally);
-    history::random(20_261_115, 400, plan(8, 12, false), &mut tally);
+    let mut tally = Tally::default();
+    play_full(&Bare, &mut tally);
+    wide(Flagged::all_bare(10), &mut tally);
+    play(&Bare, 1, 66, 1, plan(1, 65), &mut tally);
+    random(&Bare, 20_261_115, 400, plan(8, 12), &mut tally);
     printed(rt, &tally)
 }
 
 // With bits.
 fn written(rt: &impl Print) -> io::Result<()> {
-    let mut tally = [0u32; 65];
-    full::play(true, &mut tally);
-    refusal::wide(true, &mut tally);
-    history::each(3, 62, 67, 4, plan(1, 3, true), &mut tally);
-    history::each(5, 62, 67, 3, plan(6, 4, true), &mut tally);
-    history::each(7, 126, 131, 8, plan(1, 2, true), &mut tally);
-    history::play(1, 66, 1, plan(1, 65, true), &mut tally);
-    history::random(20_261_118, 60, plan(8, 8, true), &mut tally);
+    let mut tally = Tally::default();
+    play_full(&Told, &mut tally);
+    wide(Flagged::all_told(10), &mut tally);
+    each(3, 62..67, 4, plan(1, 3), &mut tally);
+    each(5, 62..67, 3, plan(6, 4), &mut tally);
+    each(7, 126..131, 8, plan(1, 2), &mut tally);
+    play(&Told, 1, 66, 1, plan(1, 65), &mut tally);
+    random(&Told, 20_261_118, 60, plan(8, 8), &mut tally);
     printed(rt, &tally)
 }
 

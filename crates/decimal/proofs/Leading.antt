@@ -1,27 +1,21 @@
--- A number's digits, two, four, six, eight or ten of them, stored with a zero before a single first one; and the blank before them.
+-- A number's first two or eight digits, stored with a zero before a single first one; the blank before them; and more behind them.
 -- Assumes nothing.
-use Prim.Native.Nat.{ℕ, suc, ◌+◌, ◌*◌, ◌/◌, ◌%◌, ◌^◌, ◌≤◌, ◌<◌}
-use mathlib.Core.Path.{◌≡◌, sym, ◌∙◌, ap}
+use Prim.Native.Nat.{ℕ, suc, ◌+◌, ◌-◌, ◌/◌, ◌%◌, ◌^◌, ◌≤◌, ◌<◌}
+use mathlib.Core.Path.{◌≡◌, refl, sym, ◌∙◌, ap}
 use mathlib.Core.Logic.{◌⊎◌, inl, inr, ⊎_elim}
 use mathlib.Core.List.{List, [], ◌∷◌, ◌++◌}
 use native.Mathlib.Omega.{arith}
 use lib.ListN.{length, set}
-use lib.Seq.{sets, set-set}
+use lib.Dec.{ltb}
+use lib.Seq.{sets, set-set, length-sets}
+use mir.Val.{bool_byte}
+use borrow.Author.Tests.{ltb-true, ltb-false}
+use Rattle.model.proofs.Counts.{bit_cases}
 use Rattle.model.specs.Decimal.{decimal}
 use Rattle.digits.specs.Parts.{pair_of, four_of}
-use Rattle.model.proofs.Decimals.{decimal_one}
-use Rattle.decimal.proofs.Pairs.{decimal_two, decimal_pair}
-use Rattle.model.proofs.Entries.{sets_swap}
-
--- r is 1 below `least`, and 0 from it on
-abbrev pub Below : ℕ → ℕ → ℕ → Type 0
-Below n least r = ((least ≤ n) × (r ≡ 0)) ⊎ ((n < least) × (r ≡ 1))
-
-pub below_most : {n least r : ℕ} → Below n least r → r ≤ 1
-below_most b = ⊎_elim (λ m. omega (arith, m.1)) (λ l. omega (arith, l.1)) b
-
-below_hundredth : {n r : ℕ} (least : ℕ) → Below n (100 * least) r → Below (n / 100) least r
-below_hundredth least b = ⊎_elim (λ m. inl (omega (arith, m.0), m.1)) (λ l. inr (omega (arith, l.0), l.1)) b
+use Rattle.model.proofs.Decimals.{decimal_one, decimal_few}
+use Rattle.decimal.proofs.Pairs.{decimal_two, decimal_pair, decimal_four}
+use Rattle.model.proofs.Entries.{sets_swap, put_none, put_more}
 
 -- zs, stored from place o on, are the digits ds of a number whose blank goes to place `at`: with a zero there, or without
 abbrev pub Lead : ℕ → ℕ → List ℕ → List ℕ → Type 0
@@ -46,72 +40,87 @@ lead_done {at} {o} {ds} {zs} lead {end} {new} out e p =
     ))
     lead
 
--- the last two digits behind the others
+-- more digits behind the first
 lead_more
-    : {at o : ℕ} {zs : List ℕ} (n : ℕ) → 100 ≤ n → n < 10_000_000_000 → Lead at o (decimal (n / 100)) zs
-    → Lead at o (decimal n) (zs ++ pair_of (n % 100))
-lead_more n l f lead =
+    : {at o : ℕ} {zs : List ℕ} (n m : ℕ) (tail : List ℕ) → decimal n ≡ decimal m ++ tail → Lead at o (decimal m) zs
+    → Lead at o (decimal n) (zs ++ tail)
+lead_more n m tail e lead =
     ⊎_elim
-    (λ same. inl (ap (λ (xs : List ℕ). xs ++ pair_of (n % 100)) same.0 ∙ sym (decimal_pair n f l), same.1))
-    (λ zero. inr (ap (λ (xs : List ℕ). xs ++ pair_of (n % 100)) zero.0 ∙ ap (λ xs. 48 ∷ xs) (sym (decimal_pair n f l)), zero.1))
+    (λ same. inl (ap (λ (xs : List ℕ). xs ++ tail) same.0 ∙ sym e, same.1))
+    (λ zero. inr (ap (λ (xs : List ℕ). xs ++ tail) zero.0 ∙ ap (λ xs. 48 ∷ xs) (sym e), zero.1))
     lead
 
--- BY THE NUMBER OF DIGITS
+-- the digits of a number that is at least `least` begin behind place `at`, and those of a smaller one a place before
+abbrev First : ℕ → ℕ → ℕ → ℕ → Type 0
+First n least at o = ((least ≤ n) × (o ≡ suc at)) ⊎ ((n < least) × (o ≡ at))
 
--- the two pairs of a number's last four digits
-pub four_high : (n : ℕ) → n % 10_000 / 100 ≡ n / 100 % 100
-four_high n = omega arith
+lead_two : (n at o : ℕ) → n < 100 → First n 10 at o → Lead at o (decimal n) (pair_of n)
+lead_two n at o u b =
+    ⊎_elim
+    (λ m. inl (sym (decimal_two n m.0 u), m.1))
+    (λ l.
+    let none : 48 + n / 10 ≡ 48 = omega (arith, l.0) in
+    let ones : 48 + n % 10 ≡ 48 + n = omega (arith, l.0) in
+    inr (rw (none, ones, decimal_one n l.0), l.1))
+    b
 
-pub four_low : (n : ℕ) → n % 10_000 % 100 ≡ n % 100
-four_low n = omega arith
+lead_eight
+    : (n at o : ℕ) → 1_000_000 ≤ n → n < 100_000_000 → First n 10_000_000 at o
+    → Lead at o (decimal n) (four_of (n / 10_000) ++ four_of (n % 10_000))
+lead_eight n at o l u b =
+    let first : First (n / 10_000 / 100) 10 at o =
+    ⊎_elim (λ m. inl (omega (arith, m.0), m.1)) (λ l. inr (omega (arith, l.0), l.1)) b
+    in
+    lead_more n (n / 10_000) (four_of (n % 10_000)) (decimal_four n (omega arith) (omega arith))
+    (lead_more (n / 10_000) (n / 10_000 / 100) (pair_of (n / 10_000 % 100))
+    (decimal_pair (n / 10_000) (omega arith) (omega arith))
+    (lead_two (n / 10_000 / 100) at o (omega arith) first))
 
--- the two halves of its last eight
-eight_high : (n : ℕ) → n % 100_000_000 / 10_000 ≡ n / 10_000 % 10_000
-eight_high n = omega arith
+-- STORED
 
-eight_low : (n : ℕ) → n % 100_000_000 % 10_000 ≡ n % 10_000
-eight_low n = omega arith
+-- r is 1 below `least`, and 0 from it on
+pub most : (n least r : ℕ) → r ≡ bool_byte (ltb n least) → r ≤ 1
+most n least r b =
+    ⊎_elim
+    (λ t. let one : r ≡ 1 = b ∙ rw t.0 in omega arith)
+    (λ t. let none : r ≡ 0 = b ∙ rw t.0 in omega arith)
+    (bit_cases (ltb n least))
 
-module _ {at o r : ℕ} (place : o + r ≡ suc at) where
-  pub lead_two : (n : ℕ) → n < 100 → Below n 10 r → Lead at o (decimal n) (pair_of n)
-  lead_two n u b =
+-- two digits or eight up to place `end`, and the blank
+module _ (n at r end : ℕ) (old new : List ℕ) where
+  begins : (least k : ℕ) → r ≡ bool_byte (ltb n least) → 1 ≤ k → end ≡ at + (k + 1 - r) → First n least at (end - k)
+  begins least k b some e =
       ⊎_elim
-      (λ m. inl (sym (decimal_two n m.0 u), omega (arith, place, m.1)))
-      (λ l.
-      let none : 48 + n / 10 ≡ 48 = omega (arith, l.0) in
-      let ones : 48 + n % 10 ≡ 48 + n = omega (arith, l.0) in
-      inr (rw (none, ones, decimal_one n l.0), omega (arith, place, l.1)))
-      b
+      (λ t. let one : r ≡ 1 = b ∙ rw t.0 in inr (ltb-true n least t.0, omega (arith, one)))
+      (λ t. let none : r ≡ 0 = b ∙ rw t.0 in inl (ltb-false n least t.0, omega (arith, none)))
+      (bit_cases (ltb n least))
 
-  pub lead_four : (n : ℕ) → 100 ≤ n → n < 10_000 → Below n 1_000 r → Lead at o (decimal n) (four_of n)
-  lead_four n l u b = lead_more n l (omega arith) (lead_two (n / 100) (omega arith) (below_hundredth 10 b))
+  pub two_done
+      : n < 100 → r ≡ bool_byte (ltb n 10) → end ≡ at + (3 - r) → new ≡ sets old (end - 2) (pair_of n)
+      → (end ≡ at + length (32 ∷ decimal n)) × (set new at 32 ≡ sets old at (32 ∷ decimal n))
+  two_done u b e s =
+      lead_done (lead_two n at (end - 2) u (begins 10 2 b (omega arith) e)) old s (omega (arith, e, most n 10 r b))
 
-  pub lead_six
-      : (n : ℕ) → 10_000 ≤ n → n < 1_000_000 → Below n 100_000 r
-      → Lead at o (decimal n) (pair_of (n / 10_000) ++ pair_of (n / 100 % 100) ++ pair_of (n % 100))
-  lead_six n l u b =
-      let first : n / 100 / 100 ≡ n / 10_000 = omega arith in
-      rw (← first) (lead_more n (omega arith) (omega arith) (lead_four (n / 100) (omega arith) (omega arith) (below_hundredth 1_000 b)))
+  pub eight_done
+      : 1_000_000 ≤ n → n < 100_000_000 → r ≡ bool_byte (ltb n 10_000_000) → end ≡ at + (9 - r)
+      → new ≡ sets old (end - 8) (four_of (n / 10_000) ++ four_of (n % 10_000))
+      → (end ≡ at + length (32 ∷ decimal n)) × (set new at 32 ≡ sets old at (32 ∷ decimal n))
+  eight_done l u b e s =
+      lead_done (lead_eight n at (end - 8) l u (begins 10_000_000 8 b (omega arith) e)) old s (omega (arith, e, most n 10_000_000 r b))
 
-  pub lead_eight
-      : (n : ℕ) → 1_000_000 ≤ n → n < 100_000_000 → Below n 10_000_000 r
-      → Lead at o (decimal n) (four_of (n / 10_000) ++ four_of (n % 10_000))
-  lead_eight n l u b =
-      let first : n / 100 / 10_000 ≡ n / 10_000 / 100 = omega arith in
-      let second : n / 100 / 100 % 100 ≡ n / 10_000 % 100 = omega arith in
-      rw (← first, ← second, four_high n, four_low n)
-      (lead_more n (omega arith) (omega arith) (lead_six (n / 100) (omega arith) (omega arith) (below_hundredth 100_000 b)))
+-- the digits of m are stored, and behind them the others of n
+pub stored_more
+    : (at end m n : ℕ) (old out new tail : List ℕ) → decimal n ≡ decimal m ++ tail → end ≡ at + length (32 ∷ decimal m)
+    → out ≡ sets old at (32 ∷ decimal m) → new ≡ sets out end tail
+    → (end + length tail ≡ at + length (32 ∷ decimal n)) × (new ≡ sets old at (32 ∷ decimal n))
+stored_more at end m n old out new tail e p q r =
+    let both = put_more (put_more (put_none at old) (32 ∷ decimal m) q p) tail r refl in
+    let whole : (32 ∷ decimal m) ++ tail ≡ 32 ∷ decimal n = ap (λ (ds : List ℕ). 32 ∷ ds) (sym e) in
+    (both.place ∙ ap (λ (ds : List ℕ). at + length ds) whole, both.holds ∙ ap (sets old at) whole)
 
-  pub lead_ten
-      : (n : ℕ) → 100_000_000 ≤ n → n < 2 ^ 32 → Below n 1_000_000_000 r
-      → Lead at o (decimal n)
-      (pair_of (n / 100_000_000) ++ (four_of (n % 100_000_000 / 10_000) ++ four_of (n % 100_000_000 % 10_000)))
-  lead_ten n l u b =
-      let first : n / 100 / 10_000 / 100 ≡ n / 100_000_000 = omega arith in
-      let second : n / 100 / 10_000 % 100 ≡ n / 10_000 % 10_000 / 100 = omega arith in
-      let third : n / 100 % 10_000 / 100 ≡ n / 10_000 % 10_000 % 100 =
-      let same : n / 100 / 100 % 100 ≡ n / 10_000 % 100 = omega arith in
-      four_high (n / 100) ∙ same ∙ sym (four_low (n / 10_000)) in
-      let fourth : n / 100 % 10_000 % 100 ≡ n % 10_000 / 100 = four_low (n / 100) ∙ sym (four_high n) in
-      rw (eight_high n, eight_low n, ← first, ← second, ← third, ← fourth, four_low n)
-      (lead_more n (omega arith) (omega arith) (lead_eight (n / 100) (omega arith) (omega arith) (below_hundredth 10_000_000 b)))
+-- with room for k more behind the j digits of m
+pub stored_room
+    : (at end m j k : ℕ) (old out : List ℕ) → m < 10 ^ suc j → suc j + k ≤ 10 → at + 11 ≤ length old
+    → end ≡ at + length (32 ∷ decimal m) → out ≡ sets old at (32 ∷ decimal m) → end + k ≤ length out
+stored_room at end m j k old out few fit h p q =
+    omega (arith, decimal_few j m few, ap length q, length-sets old at (32 ∷ decimal m))

@@ -1,8 +1,8 @@
-// A number in decimal, with a blank before it. How many digits it has picks the function; each stores them by pairs or eight at a
-// time, and the zero before a single first digit where the blank goes.
+// A number in decimal, with a blank before it. How many digits it has picks how they are stored, by pairs and eight at a time: the
+// first two or eight with the zero before a single first digit where the blank goes, and the others behind them.
 #![tactic(auto)]
 
-ghost use Rattle.std.specs.Prelude.{◌∷◌, ◌≡◌, ◌⊎◌, ◌+◌, ◌≤◌, ◌<◌, length};
+ghost use Rattle.std.specs.Prelude.{◌∷◌, ◌≡◌, ◌+◌, ◌≤◌, ◌<◌, length};
 ghost use Rattle.std.proofs.lemmas.List.Edits.{sets};
 ghost use Rattle.model.specs.Decimal.{decimal};
 
@@ -11,57 +11,29 @@ use digits::{put_digits, put_pair};
 // What stands before a number.
 const BLANK: u8 = b' ';
 
-// 1 below `least`, and 0 from it on.
-fn below(n: u32, least: u32) -> usize
-    ensures { ((least ≤ n) × (result ≡ 0)) ⊎ ((n < least) × (result ≡ 1)) }
-{
-    if n < least {
-        return 1;
-    }
-    0
-}
-
-// One or two digits.
-fn put_two(n: u32, out: &mut [u8], at: usize) -> usize
-    requires few { n < 100 }
+// One or two digits, with `more` to come behind them: answers the place behind those.
+fn put_two(n: u32, more: usize, out: &mut [u8], at: usize) -> usize
+    requires few { (n < 100) × (more ≤ 8) }
     requires room { at + 11 ≤ length out.old }
-    ensures place { result ≡ at + length (32 ∷ decimal n) }
+    ensures place { result ≡ at + length (32 ∷ decimal n) + more }
     ensures bytes { out.new ≡ sets out.old at (32 ∷ decimal n) }
 {
-    let end = at + (3 - below(n, 10));
-    put_pair(n, out, end - 2);
+    let end = at + (3 + more - usize::from(n < 10));
+    put_pair(n, out, end - more - 2);
     out[at] = BLANK;
     end
 }
 
-// Three or four digits.
-fn put_four(n: u32, out: &mut [u8], at: usize) -> usize
+// Three or four digits, with `more` to come behind them: answers the place behind those.
+fn put_four(n: u32, more: usize, out: &mut [u8], at: usize) -> usize
     requires many { 100 ≤ n }
-    requires few { n < 10_000 }
+    requires few { (n < 10_000) × (more ≤ 6) }
     requires room { at + 11 ≤ length out.old }
-    ensures place { result ≡ at + length (32 ∷ decimal n) }
+    ensures place { result ≡ at + length (32 ∷ decimal n) + more }
     ensures bytes { out.new ≡ sets out.old at (32 ∷ decimal n) }
 {
-    let end = at + (5 - below(n, 1_000));
-    put_pair(n / 100, out, end - 4);
-    put_pair(n % 100, out, end - 2);
-    out[at] = BLANK;
-    end
-}
-
-// Five or six digits.
-fn put_six(n: u32, out: &mut [u8], at: usize) -> usize
-    requires many { 10_000 ≤ n }
-    requires few { n < 1_000_000 }
-    requires room { at + 11 ≤ length out.old }
-    ensures place { result ≡ at + length (32 ∷ decimal n) }
-    ensures bytes { out.new ≡ sets out.old at (32 ∷ decimal n) }
-{
-    let end = at + (7 - below(n, 100_000));
-    put_pair(n / 10_000, out, end - 6);
-    put_pair(n / 100 % 100, out, end - 4);
-    put_pair(n % 100, out, end - 2);
-    out[at] = BLANK;
+    let end = put_two(n / 100, more + 2, out, at);
+    put_pair(n % 100, out, end - more - 2);
     end
 }
 
@@ -73,22 +45,8 @@ fn put_eight(n: u32, out: &mut [u8], at: usize) -> usize
     ensures place { result ≡ at + length (32 ∷ decimal n) }
     ensures bytes { out.new ≡ sets out.old at (32 ∷ decimal n) }
 {
-    let end = at + (9 - below(n, 10_000_000));
+    let end = at + (9 - usize::from(n < 10_000_000));
     put_digits(n, out, end - 8);
-    out[at] = BLANK;
-    end
-}
-
-// Nine or ten digits.
-fn put_ten(n: u32, out: &mut [u8], at: usize) -> usize
-    requires many { 100_000_000 ≤ n }
-    requires room { at + 11 ≤ length out.old }
-    ensures place { result ≡ at + length (32 ∷ decimal n) }
-    ensures bytes { out.new ≡ sets out.old at (32 ∷ decimal n) }
-{
-    let end = at + (11 - below(n, 1_000_000_000));
-    put_pair(n / 100_000_000, out, end - 10);
-    put_digits(n % 100_000_000, out, end - 8);
     out[at] = BLANK;
     end
 }
@@ -100,18 +58,22 @@ pub fn put_number(n: u32, out: &mut [u8], at: usize) -> usize
     ensures bytes { out.new ≡ sets out.old at (32 ∷ decimal n) }
 {
     if 100_000_000 <= n {
-        return put_ten(n, out, at);
+        let end = put_two(n / 100_000_000, 8, out, at);
+        put_digits(n % 100_000_000, out, end - 8);
+        return end;
     }
     if 1_000_000 <= n {
         return put_eight(n, out, at);
     }
     if 10_000 <= n {
-        return put_six(n, out, at);
+        let end = put_four(n / 100, 2, out, at);
+        put_pair(n % 100, out, end - 2);
+        return end;
     }
     if 100 <= n {
-        return put_four(n, out, at);
+        return put_four(n, 0, out, at);
     }
-    put_two(n, out, at)
+    put_two(n, 0, out, at)
 }
 
 // Any number, which is mostly below 100: the test for that stands in the caller's code.
@@ -121,7 +83,7 @@ pub fn put_small(n: u32, out: &mut [u8], at: usize) -> usize
     ensures bytes { out.new ≡ sets out.old at (32 ∷ decimal n) }
 {
     if n < 100 {
-        return put_two(n, out, at);
+        return put_two(n, 0, out, at);
     }
     put_number(n, out, at)
 }

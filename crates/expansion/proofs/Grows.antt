@@ -1,6 +1,6 @@
 -- Laws of a growth's reply. Assumes nothing.
 use Prim.Native.Nat.{ℕ, ◌≤◌}
-use mathlib.Core.Path.{◌≡◌, sym, ◌∙◌, ap}
+use mathlib.Core.Path.{◌≡◌, sym, ◌∙◌}
 use mathlib.Core.Bool.{true, false}
 use mathlib.Core.List.{[], ◌∷◌}
 use native.Mathlib.Omega.{arith}
@@ -25,12 +25,6 @@ not_full t s e = ltb-false max_intervals (length (expanded t s).intervals) e
 
 abbrev refusal : ℕ → TableReply
 refusal r = record { refusal = r; moved = 0; header = no_header }
-
--- a reply that is another
-pub grow_same
-    : (t : Table) (s : Shape) (out left : Arrays) (z w : TableReply) → z ≡ w → GrowReply t s out left w → GrowReply t s out left z
-grow_same t s out left z w e g =
-    record { reply = e ∙ g.reply; least = λ q. ap (λ (r : TableReply). r.moved) e ∙ g.least q; lent = g.lent }
 
 module _ (t : Table) (s : Shape) (out : Arrays) (r : ℕ) (e : r ≡ first (growth_tests t s)) where
   -- refused by rules 1 to 5, or 31

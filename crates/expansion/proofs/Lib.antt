@@ -1,2 +1,3 @@
 pub mod Grows
 pub mod Moves
+pub mod Same

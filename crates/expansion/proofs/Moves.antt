@@ -10,16 +10,9 @@ use Rattle.model.specs.Refusal.{first}
 use Rattle.model.specs.Expansion.{expanded}
 use Rattle.model.specs.Relocations.{rows, page}
 use Rattle.model.specs.Calls.{answer, growth_tests, order_tests, relocations_answer, buffer_after}
-use Rattle.model.specs.declared.reply.RelocationsReply.{RelocationsReply}
 use Rattle.model.proofs.Refusals.{first_found, first_after, refused}
 use Rattle.model.proofs.Soundness.{growth_numbered}
 use Rattle.expansion.specs.Replies.{moves_refusal, MovesReply}
-
--- a reply that is another
-pub moves_same
-    : (t : Table) (s : Shape) (q : ℕ) (buffer left : List ℕ) (z w : RelocationsReply) → z ≡ w → MovesReply t s q buffer left w
-    → MovesReply t s q buffer left z
-moves_same t s q buffer left z w e m = record { reply = e ∙ m.reply; lent = m.lent }
 
 module _ (t : Table) (s : Shape) (q : ℕ) (buffer : List ℕ) (r : ℕ) (e : r ≡ first (growth_tests t s)) where
   -- refused by rules 1 to 5

@@ -2,16 +2,22 @@
 #![tactic(auto)]
 
 ghost use Rattle.std.specs.Prelude.{false, ◌≡◌};
-ghost use Rattle.model.specs.Lent.{LentFormed, lent};
 ghost use Rattle.model.specs.Table.{sizes, arrays};
 ghost use Rattle.model.specs.Refusal.{room_short};
-ghost use Rattle.expansion_count.specs.Given.{Grows};
+ghost use Rattle.model.specs.Results.{table_told, relocations_told};
+ghost use Rattle.table.specs.Formed.{table_of};
+ghost use Rattle.expansion_count.specs.Growths.{old_table, new_sizes};
 ghost use Rattle.expansion.specs.Replies.{GrowReply, MovesReply};
 
+use expansion_count::Growth;
+use expansion_plan::{blocks_after, dues_after, dues_before, growth_allowed, some_fall};
+use expansion_table::write_expanded;
+use model::given::{Grown, Page};
 use model::limits::BLOCKS;
-use model::reply::{RelocationsReply, TableReply};
+use model::refusal::Refusal;
 use model::table::Header;
-use sizes::refused_table;
+use relocations::{relocation_count, write_relocations};
+use table::FormedTable;
 
 // What each block has, and what it is due after a growth: one array behind the other, so that they are cleared at once.
 #[derive(Clone, Copy)]
@@ -20,172 +26,88 @@ struct Shares {
     dues: [u32; BLOCKS],
 }
 
-// A growth that rules 1 to 5 and 31 accept. `olds` and `dues` are what each block has, and is due after it; `falls` says that some old
-// block is due less, and `block_count` is the number of blocks after it.
-fn accepted<'a>(
-    header: Header,
-    tops: &[u32],
-    ends: &[u32],
-    blocks: &[u32],
-    adjustments: &[u32],
-    buckets: u32,
-    bins: u32,
-    olds: &'a [u32; BLOCKS],
-    dues: &'a [u32; BLOCKS],
-    falls: bool,
-    block_count: u32,
+// A growth that rules 1 to 5 and 31 accept. 8: its table needs too many intervals.
+fn accepted(
+    growth: &Growth,
     new_tops: &mut [u32],
     new_ends: &mut [u32],
     new_blocks: &mut [u32],
     new_adjustments: &mut [u32],
-) -> TableReply
-    requires grows { Grows header ends.now blocks.now adjustments.now buckets olds.now dues.now falls block_count tops.now bins }
-    requires room { room_short (arrays new_tops.old new_ends.old new_blocks.old new_adjustments.old) ≡ false }
-    ensures { GrowReply (lent header tops.now ends.now blocks.now adjustments.now) (sizes buckets bins)
-        (arrays new_tops.old new_ends.old new_blocks.old new_adjustments.old) (arrays new_tops.new new_ends.new new_blocks.new new_adjustments.new) result }
+) -> Result<Grown, Refusal>
+    requires { room_short (arrays new_tops.old new_ends.old new_blocks.old new_adjustments.old) ≡ false }
+    ensures { GrowReply (old_table growth.now) (new_sizes growth.now)
+        (arrays new_tops.old new_ends.old new_blocks.old new_adjustments.old) (arrays new_tops.new new_ends.new new_blocks.new new_adjustments.new)
+        (table_told result) }
 {
-    let full = expansion_count::intervals_full(
-        header,
-        ends,
-        blocks,
-        adjustments,
-        buckets,
-        olds,
-        dues,
-        falls,
-        block_count,
-    );
+    let full = growth.intervals_full();
     if full {
-        return refused_table(8);
+        return Err(Refusal::IntervalsFull);
     }
-    let growth = expansion_table::write_expanded(
-        header,
-        tops,
-        ends,
-        blocks,
-        adjustments,
-        buckets,
-        bins,
-        olds,
-        dues,
-        falls,
-        block_count,
-        new_tops,
-        new_ends,
-        new_blocks,
-        new_adjustments,
-    );
-    TableReply {
-        refusal: 0,
-        moved: growth.moved,
+    let written = write_expanded(growth, new_tops, new_ends, new_blocks, new_adjustments);
+    Ok(Grown {
+        moved: written.moved,
         header: Header {
-            buckets,
-            capacity: header.capacity,
-            block_count,
-            interval_count: growth.intervals,
+            buckets: growth.buckets,
+            capacity: growth.table.header.capacity,
+            block_count: growth.block_count,
+            interval_count: written.intervals,
         },
-    }
+    })
 }
 
 // A growth into arrays with room for any table.
 pub fn grown(
-    header: Header,
-    tops: &[u32],
-    ends: &[u32],
-    blocks: &[u32],
-    adjustments: &[u32],
+    table: FormedTable,
     buckets: u32,
     bins: u32,
     new_tops: &mut [u32],
     new_ends: &mut [u32],
     new_blocks: &mut [u32],
     new_adjustments: &mut [u32],
-) -> TableReply
-    requires lent_formed { LentFormed header tops.now ends.now blocks.now adjustments.now }
-    requires room { room_short (arrays new_tops.old new_ends.old new_blocks.old new_adjustments.old) ≡ false }
-    ensures { GrowReply (lent header tops.now ends.now blocks.now adjustments.now) (sizes buckets bins)
-        (arrays new_tops.old new_ends.old new_blocks.old new_adjustments.old) (arrays new_tops.new new_ends.new new_blocks.new new_adjustments.new) result }
+) -> Result<Grown, Refusal>
+    requires { room_short (arrays new_tops.old new_ends.old new_blocks.old new_adjustments.old) ≡ false }
+    ensures { GrowReply (table_of table.entry) (sizes buckets bins)
+        (arrays new_tops.old new_ends.old new_blocks.old new_adjustments.old) (arrays new_tops.new new_ends.new new_blocks.new new_adjustments.new)
+        (table_told result) }
 {
-    let wrong = expansion_plan::growth_refusal(header, tops, buckets, bins);
-    if wrong != 0 {
-        return refused_table(wrong);
-    }
+    let header = table.header;
+    let tops = table.tops;
+    growth_allowed(header, tops, buckets, bins)?;
     let mut shares = Shares {
         olds: [0u32; BLOCKS],
         dues: [0u32; BLOCKS],
     };
-    expansion_plan::dues_before(header, tops, &mut shares.olds);
-    expansion_plan::dues_after(header, tops, buckets, bins, &mut shares.dues);
-    let falls = expansion_plan::some_fall(header, tops, buckets, bins);
-    let block_count = expansion_plan::blocks_after(header, tops, bins);
-    accepted(
-        header,
-        tops,
-        ends,
-        blocks,
-        adjustments,
+    dues_before(header, tops, &mut shares.olds);
+    dues_after(header, tops, buckets, bins, &mut shares.dues);
+    let falls = some_fall(header, tops, buckets, bins);
+    let block_count = blocks_after(header, tops, bins);
+    let growth = Growth {
+        table,
         buckets,
         bins,
-        &shares.olds,
-        &shares.dues,
+        olds: &shares.olds,
+        dues: &shares.dues,
         falls,
         block_count,
-        new_tops,
-        new_ends,
-        new_blocks,
-        new_adjustments,
-    )
+    };
+    accepted(&growth, new_tops, new_ends, new_blocks, new_adjustments)
 }
 
-// The reply that refuses a move list: its number, and zeros.
-fn refused_list(refusal: u32) -> RelocationsReply
-    ensures { result ≡ record { refusal = refusal; written = 0; total = 0 } }
-{
-    RelocationsReply {
-        refusal,
-        written: 0,
-        total: 0,
-    }
-}
-
-// A page of the move list.
+// A page of the move list. 9: it has fewer than `first` rows.
 pub fn relocated(
-    header: Header,
-    tops: &[u32],
-    ends: &[u32],
-    blocks: &[u32],
-    adjustments: &[u32],
+    table: FormedTable,
     buckets: u32,
     bins: u32,
     first: u32,
     rows: &mut [u32],
-) -> RelocationsReply
-    requires { LentFormed header tops.now ends.now blocks.now adjustments.now }
-    ensures { MovesReply (lent header tops.now ends.now blocks.now adjustments.now) (sizes buckets bins) first rows.old rows.new result }
+) -> Result<Page, Refusal>
+    ensures { MovesReply (table_of table.entry) (sizes buckets bins) first rows.old rows.new (relocations_told result) }
 {
-    let refusal = expansion_plan::growth_refusal(header, tops, buckets, bins);
-    if refusal != 0 {
-        return refused_list(refusal);
-    }
-    let total = relocations::relocation_count(header, tops, buckets, bins);
+    growth_allowed(table.header, table.tops, buckets, bins)?;
+    let total = relocation_count(table.header, table.tops, buckets, bins);
     if total < first {
-        return refused_list(9);
+        return Err(Refusal::OrderPast);
     }
-    let written = relocations::write_relocations(
-        header,
-        tops,
-        ends,
-        blocks,
-        adjustments,
-        buckets,
-        bins,
-        first,
-        total - first,
-        rows,
-    );
-    RelocationsReply {
-        refusal: 0,
-        written,
-        total,
-    }
+    let written = write_relocations(table, buckets, bins, first, total - first, rows);
+    Ok(Page { written, total })
 }

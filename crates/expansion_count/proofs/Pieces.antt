@@ -1,7 +1,7 @@
 -- What blocks gain, and the pieces of the blocks from j on. Assumes nothing.
-use Prim.Native.Nat.{ℕ, suc, ◌+◌, ◌-◌, ◌≤◌, ◌<◌, min}
+use Prim.Native.Nat.{ℕ, suc, ◌+◌, ◌-◌, ◌≤◌, ◌<◌}
 use mathlib.Core.Path.{◌≡◌, sym, ◌∙◌, ap}
-use mathlib.Core.Bool.{Bool, false}
+use mathlib.Core.Bool.{false}
 use mathlib.Core.Logic.{⊎_elim}
 use mathlib.Core.List.{List, ◌∷◌}
 use native.Mathlib.Omega.{arith}
@@ -9,21 +9,31 @@ use lib.ListN.{length, get_or}
 use borrow.Author.Tests.{eq-eqb, ne_eqb}
 use Rattle.model.specs.Basics.{if◌then◌otherwise◌}
 use Rattle.model.specs.Limits.{max_blocks}
-use Rattle.model.specs.Table.{Shape, interval, Table, Arrays, arrays, table, sizes}
-use Rattle.model.specs.Expansion.{grown_tops, has, due_after, gain, pieces}
+use Rattle.model.specs.Table.{Shape, interval, Table, Arrays, table}
+use Rattle.model.specs.Refusal.{first}
+use Rattle.model.specs.Sound.{Formed}
+use Rattle.model.specs.Calls.{growth_tests}
+use Rattle.model.specs.Expansion.{grown_tops, has, due_after, some_fall, last_block, gain, pieces}
 use Rattle.model.specs.declared.table.Header.{Header}
-use Rattle.model.proofs.Counts.{below_or}
 use Rattle.model.proofs.Listed.{equal_or}
-use Rattle.model.proofs.Wells.{Well, formed_well, tops_length}
-use Rattle.model.proofs.Growths.{Accepted, accepted, length_either, block_limits, none_falls}
+use Rattle.model.proofs.Wells.{Well, formed_well}
+use Rattle.model.proofs.Growths.{Accepted, accepted, block_limits, none_falls}
 use Rattle.model.proofs.Filled.{last_of, pieces_last, pieces_none, pieces_one}
-use Rattle.model.proofs.Steps.{pieces_length, has_most, last_lent}
-use Rattle.expansion_count.specs.Given.{Drains, Grows, Fills, Shares, NoneFalls}
+use Rattle.model.proofs.Steps.{pieces_length, has_most}
+use Rattle.table.specs.Formed.{arrays_of}
+use Rattle.expansion_plan.specs.Shares.{DuesBefore, DuesAfter}
+use Rattle.expansion_count.specs.declared.growth.Growth.{Growth}
+use Rattle.expansion_count.specs.Given.{Shares, NoneFalls}
+use Rattle.expansion_count.specs.Growths.{old_table, new_sizes}
 use Rattle.expansion_count.specs.Made.{piece_of}
 
--- what is not 0 counts as 1
-pub some_gained : (n : ℕ) → (n ≡ 0 → ⊥) → min 1 n ≡ 1
-some_gained n z = ⊎_elim (λ l. omega arith) (λ l. absurd (z (omega arith))) (below_or 0 n)
+-- a growth by which no old block is due less
+pub record Fills (h : Header) (a : Arrays) (s : Shape) (olds dues : List ℕ) : Type 0 where
+  pub formed : Formed h a
+  pub asked : first (growth_tests (table h a) s) ≡ 0
+  pub before : DuesBefore (table h a) olds
+  pub after : DuesAfter (table h a) s dues
+  pub none : some_fall (table h a) s ≡ false
 
 module _ (t : Table) (s : Shape) (j : ℕ) where
   -- the last interval's block has no piece, and the others have what they gain
@@ -71,10 +81,10 @@ module _ (t : Table) (s : Shape) (j : ℕ) where
 
   -- how many pieces there are
   module _ (g : ℕ) (l : j < g) where
-    count_skip : piece_of t s j ≡ 0 → length (pieces t s 0 j (g - j)) ≡ length (pieces t s 0 (j + 1) (g - (j + 1)))
+    pub count_skip : piece_of t s j ≡ 0 → length (pieces t s 0 j (g - j)) ≡ length (pieces t s 0 (j + 1) (g - (j + 1)))
     count_skip z = ap length (pieces_skip 0 g l z)
 
-    count_take
+    pub count_take
         : (piece_of t s j ≡ 0 → ⊥) → length (pieces t s 0 j (g - j)) ≡ suc (length (pieces t s 0 (j + 1) (g - (j + 1))))
     count_take n =
         ap length (pieces_take 0 g l n) ∙ ap suc (pieces_length t s (g - (j + 1)) (j + 1) (0 + piece_of t s j) 0)
@@ -99,16 +109,6 @@ module _ (h : Header) (a : Arrays) (s : Shape) (olds dues : List ℕ) (f : Fills
   pub blocks_few : (n : ℕ) → n ≡ length (grown_tops (table h a) s) → n ≤ max_blocks
   blocks_few n e = omega (arith, block_limits (table h a) s fills_well fills_asked)
 
-  -- the last interval's block is one of them
-  pub last_below : (n : ℕ) → n ≡ length (grown_tops (table h a) s) → get_or a.blocks (h.interval_count - 1) 0 < n
-  last_below n e =
-      let some = f.formed.some_intervals in
-      let own = f.formed.blocks_below (h.interval_count - 1) (omega arith) in
-      ⊎_elim
-      (λ l. omega (arith, l.1, tops_length h a f.formed))
-      (λ l. omega (arith, l.1, tops_length h a f.formed))
-      (length_either (table h a) s fills_well fills_asked)
-
   -- no block has more than the buckets up to where the pieces have come to
   pub had_below : (j at : ℕ) → j < max_blocks → h.buckets ≤ at → get_or olds j 0 ≤ at
   unfolding table
@@ -118,28 +118,23 @@ module _ (h : Header) (a : Arrays) (s : Shape) (olds dues : List ℕ) (f : Fills
   pub fills_rise : NoneFalls olds dues
   fills_rise j l = omega (arith, gain_from j l)
 
-  -- what the pieces are made from
-  pub fills_shares : Shares (table h a) s (get_or a.blocks (h.interval_count - 1) 0) olds dues
-  fills_shares = record { own = sym (last_lent h a f.formed.some_intervals); before = f.before; after = f.after }
+-- a growth by which no old block is due less
+pub growth_fills
+    : (g : Growth) → g.falls ≡ false → Fills g.table.header (arrays_of g.table) (new_sizes g) g.olds.now g.dues.now
+growth_fills g e =
+    record {
+      formed = g.table.formed;
+      asked = g.grows.asked;
+      before = g.grows.before;
+      after = g.grows.after;
+      none = sym g.grows.falling ∙ e;
+    }
 
--- a growth in either case
-module _
-    {h : Header}
-    {ends blocks adjustments : List ℕ}
-    {buckets : ℕ}
-    {olds dues : List ℕ}
-    {falls : Bool}
-    {count : ℕ}
-    {tops : List ℕ}
-    {bins : ℕ}
-    (g : Grows h ends blocks adjustments buckets olds dues falls count tops bins)
-  where
-    pub grows_drains : Drains h ends blocks adjustments buckets dues tops bins
-    grows_drains = record { formed = g.formed; asked = g.asked; after = g.after }
-
-    pub grows_fills : falls ≡ false → Fills h (arrays tops ends blocks adjustments) (sizes buckets bins) olds dues
-    grows_fills e =
-        record { formed = g.formed; asked = g.asked; before = g.before; after = g.after; none = sym g.falling ∙ e }
+-- what the pieces of a growth are made from
+pub growth_shares
+    : (g : Growth) (last : ℕ) → last ≡ last_block (old_table g).intervals
+    → Shares (old_table g) (new_sizes g) last g.olds.now g.dues.now
+growth_shares g last e = record { own = e; before = g.grows.before; after = g.grows.after }
 
 -- what a block gains in an interval of its own, from the arrays of dues
 module _ {t : Table} {s : Shape} {last : ℕ} {olds dues : List ℕ} (shares : Shares t s last olds dues) (j : ℕ) where
@@ -151,22 +146,3 @@ module _ {t : Table} {s : Shape} {last : ℕ} {olds dues : List ℕ} (shares : S
   piece_gained l n =
       piece_other t s j (λ e. n (e ∙ sym shares.own))
       ∙ omega (arith, shares.before j l, shares.after j l)
-
-  -- so the pieces from it on are those behind it, and one more if it gains and is not the last interval's block
-  module _ (g : ℕ) (l : j < g) (few : g ≤ max_blocks) where
-    abbrev from_here : ℕ
-    from_here = length (pieces t s 0 j (g - j))
-
-    abbrev behind : ℕ
-    behind = length (pieces t s 0 (j + 1) (g - (j + 1)))
-
-    pub count_last : j ≡ last → from_here ≡ behind
-    count_last e = count_skip t s j g l (piece_last e)
-
-    pub count_other : (j ≡ last → ⊥) → from_here ≡ behind + min 1 (get_or dues j 0 - get_or olds j 0)
-    count_other n =
-        let gained = piece_gained (omega arith) n in
-        ⊎_elim
-        (λ z. omega (arith, count_skip t s j g l (gained ∙ z)))
-        (λ z. omega (arith, count_take t s j g l (λ e. z (sym gained ∙ e)), some_gained _ z))
-        (equal_or (get_or dues j 0 - get_or olds j 0) 0)

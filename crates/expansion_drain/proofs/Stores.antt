@@ -8,12 +8,8 @@ use lib.ListN.{length, length-append, length-map}
 use lib.Seq.{sets, length-sets}
 use Rattle.model.specs.Table.{Interval, Table, arrays, over, written}
 use Rattle.model.proofs.Entries.{sets_over, Put, put_more}
-use Rattle.model.specs.Expansion.{parts, extended}
-use Rattle.model.specs.declared.plan.Action.TheVariants.{Stay}
-use Rattle.model.specs.declared.plan.Plan.{Plan}
-use Rattle.expansion_count.specs.Made.{made}
 use Rattle.expansion_count.proofs.Parts.{Front}
-use Rattle.expansion_drain.specs.Stored.{Room, Stored, staying}
+use Rattle.expansion_drain.specs.Stored.{Room, Stored}
 
 -- room for fewer
 pub room_less : {m n : ℕ} {es bs cs : List ℕ} → m ≤ n → Room n es bs cs → Room m es bs cs
@@ -73,11 +69,6 @@ stored_written u ts ts' {es} {bs} {cs} e s r =
     s.adjustments
     ∙ sets_over (map (λ i. i.adjustment) u.intervals) cs (omega (arith, length-map u.intervals (λ i. i.adjustment), r.adjustments)) in
     λ i. arrays (e i) (ends i) (blocks i) (adjustments i)
-
--- what is made of an interval that stays depends on its plan by the buckets moved alone
-pub stays_same : (p : Plan) (i : Interval) (g m : ℕ) → p.action ≡ Stay → made p i g m ≡ made (staying p.moved) i g m
-unfolding made
-stays_same p i g m e = ap (λ a. extended g i.end m p.moved (parts a i g [])) e
 
 -- A LOOP THAT WRITES
 

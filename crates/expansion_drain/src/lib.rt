@@ -2,95 +2,93 @@
 // final end when it is written.
 #![tactic(auto)]
 
-ghost use Rattle.std.specs.Prelude.{List, [], ◌∷◌, ℕ, ◌+◌, ◌^◌, ◌≤◌, ◌<◌, ◌≡◌, length};
-ghost use Rattle.model.specs.Table.{interval, sizes};
+ghost use Rattle.std.specs.Prelude.{[], ◌∷◌, ◌+◌, ◌^◌, ◌<◌, ◌≤◌, ◌≡◌, length};
 ghost use Rattle.model.specs.Expansion.{drained};
-ghost use Rattle.model.specs.Lent.{lent};
-ghost use Rattle.expansion_count.specs.Given.{Some, Drains};
+ghost use Rattle.table.specs.Formed.{arrays_of};
+ghost use Rattle.expansion_plan.specs.Shares.{interval_at};
+ghost use Rattle.expansion_count.specs.Growths.{old_table, new_sizes};
 ghost use Rattle.expansion_count.specs.Made.{made, CountedDrained};
-ghost use Rattle.expansion_drain.specs.Stored.{Room, Stored, staying, DrainsInto};
+ghost use Rattle.expansion_drain.specs.Stored.{Room, Stored, staying, interval_of};
 
-use expansion_count::Growth;
+use expansion_count::{Growth, Written};
 use expansion_plan::plan_at;
-use model::limits::BLOCKS;
 use model::plan::{Action, Plan};
-use model::table::Header;
-use table::before;
+use table::{FormedTable, before};
+
+// document 01's run: its end, the first bucket past it; its block; its rank adjustment.
+#[derive(Clone, Copy)]
+pub struct Interval {
+    pub end: u32,
+    pub block: u32,
+    pub adjustment: u32,
+}
+
+// Interval i of a table.
+pub fn interval_at(table: FormedTable, i: usize) -> Interval
+    requires { i < table.header.interval_count }
+    ensures { interval_of result ≡ interval_at (arrays_of table.entry) i }
+{
+    Interval {
+        end: table.ends[i],
+        block: table.blocks[i],
+        adjustment: table.adjustments[i],
+    }
+}
 
 // Writes one interval at place o.
 pub fn write_interval(
-    end: u32,
-    block: u32,
-    adjustment: u32,
+    interval: Interval,
     o: usize,
     ends: &mut [u32],
     blocks: &mut [u32],
     adjustments: &mut [u32],
 )
     requires { Room (o + 1) ends.old blocks.old adjustments.old }
-    ensures { Stored o (interval end block adjustment ∷ []) ends.old blocks.old adjustments.old ends.new
-        blocks.new adjustments.new }
+    ensures { Stored o (interval_of interval ∷ []) ends.old blocks.old adjustments.old ends.new blocks.new adjustments.new }
 {
-    ends[o] = end;
-    blocks[o] = block;
-    adjustments[o] = adjustment;
+    ends[o] = interval.end;
+    blocks[o] = interval.block;
+    adjustments[o] = interval.adjustment;
 }
 
 // The same for an interval of the new block. Its stores stand in another order, so that the compiler does not make one of them
 // and those of an interval that stays.
 fn write_moved(
-    end: u32,
-    block: u32,
-    adjustment: u32,
+    interval: Interval,
     o: usize,
     ends: &mut [u32],
     blocks: &mut [u32],
     adjustments: &mut [u32],
 )
     requires { Room (o + 1) ends.old blocks.old adjustments.old }
-    ensures { Stored o (interval end block adjustment ∷ []) ends.old blocks.old adjustments.old ends.new
-        blocks.new adjustments.new }
+    ensures { Stored o (interval_of interval ∷ []) ends.old blocks.old adjustments.old ends.new blocks.new adjustments.new }
 {
-    adjustments[o] = adjustment;
-    blocks[o] = block;
-    ends[o] = end;
+    adjustments[o] = interval.adjustment;
+    blocks[o] = interval.block;
+    ends[o] = interval.end;
 }
 
 // Writes two intervals, at places o and o + 1: the second one is of the new block.
 fn write_two(
-    end: u32,
-    block: u32,
-    adjustment: u32,
-    next_end: u32,
-    next_block: u32,
-    next_adjustment: u32,
+    interval: Interval,
+    next: Interval,
     o: usize,
     ends: &mut [u32],
     blocks: &mut [u32],
     adjustments: &mut [u32],
 )
     requires { Room (o + 2) ends.old blocks.old adjustments.old }
-    ensures { Stored o (interval end block adjustment ∷ interval next_end next_block next_adjustment ∷ []) ends.old
-        blocks.old adjustments.old ends.new blocks.new adjustments.new }
+    ensures { Stored o (interval_of interval ∷ interval_of next ∷ []) ends.old blocks.old adjustments.old
+        ends.new blocks.new adjustments.new }
 {
-    write_interval(end, block, adjustment, o, ends, blocks, adjustments);
-    write_moved(
-        next_end,
-        next_block,
-        next_adjustment,
-        o + 1,
-        ends,
-        blocks,
-        adjustments,
-    );
+    write_interval(interval, o, ends, blocks, adjustments);
+    write_moved(next, o + 1, ends, blocks, adjustments);
 }
 
 // Writes an interval that stays, from place o on, where `moved` buckets have moved before it: `left` new buckets form an interval
 // of block g behind it. The next place.
 fn write_stay(
-    end: u32,
-    block: u32,
-    adjustment: u32,
+    interval: Interval,
     g: u32,
     moved: u32,
     left: u32,
@@ -99,28 +97,22 @@ fn write_stay(
     blocks: &mut [u32],
     adjustments: &mut [u32],
 ) -> usize
-    requires block_lt_g { (block < g) × (moved ≤ end) × (end + left < 2 ^ 32) }
-    requires room { Room (o + length (made (staying moved) (interval end block adjustment) g left)) ends.old blocks.old adjustments.old }
-    ensures place { result ≡ o + length (made (staying moved) (interval end block adjustment) g left) }
-    ensures stored { Stored o (made (staying moved) (interval end block adjustment) g left) ends.old blocks.old
-        adjustments.old ends.new blocks.new adjustments.new }
+    requires block_lt_g { (interval.block < g) × (moved ≤ interval.end) × (interval.end + left < 2 ^ 32) }
+    requires room { Room (o + length (made (staying moved) (interval_of interval) g left)) ends.old blocks.old adjustments.old }
+    ensures place { result ≡ o + length (made (staying moved) (interval_of interval) g left) }
+    ensures stored { Stored o (made (staying moved) (interval_of interval) g left) ends.old blocks.old adjustments.old
+        ends.new blocks.new adjustments.new }
 {
     if left == 0 {
-        write_interval(end, block, adjustment, o, ends, blocks, adjustments);
+        write_interval(interval, o, ends, blocks, adjustments);
         return o + 1;
     }
-    write_two(
-        end,
-        block,
-        adjustment,
-        end + left,
-        g,
-        end - moved,
-        o,
-        ends,
-        blocks,
-        adjustments,
-    );
+    let fresh = Interval {
+        end: interval.end + left,
+        block: g,
+        adjustment: interval.end - moved,
+    };
+    write_two(interval, fresh, o, ends, blocks, adjustments);
     o + 2
 }
 
@@ -128,9 +120,7 @@ fn write_stay(
 // what moves, or form an interval of block g behind one that stays. The next place.
 fn write_parts(
     plan: Plan,
-    end: u32,
-    block: u32,
-    adjustment: u32,
+    interval: Interval,
     g: u32,
     left: u32,
     o: usize,
@@ -138,47 +128,36 @@ fn write_parts(
     blocks: &mut [u32],
     adjustments: &mut [u32],
 ) -> usize
-    requires block_lt_g { (block < g) × (plan.moved ≤ end) × (end + left < 2 ^ 32) }
-    requires room { Room (o + length (made plan (interval end block adjustment) g left)) ends.old blocks.old adjustments.old }
-    ensures place { result ≡ o + length (made plan (interval end block adjustment) g left) }
-    ensures stored { Stored o (made plan (interval end block adjustment) g left) ends.old blocks.old adjustments.old
+    requires block_lt_g { (interval.block < g) × (plan.moved ≤ interval.end) × (interval.end + left < 2 ^ 32) }
+    requires room { Room (o + length (made plan (interval_of interval) g left)) ends.old blocks.old adjustments.old }
+    ensures place { result ≡ o + length (made plan (interval_of interval) g left) }
+    ensures stored { Stored o (made plan (interval_of interval) g left) ends.old blocks.old adjustments.old
         ends.new blocks.new adjustments.new }
 {
     let action = plan.action;
-    let reach = end + left;
+    let end = interval.end + left;
     match action {
-        Action::Stay => write_stay(
-            end,
-            block,
-            adjustment,
-            g,
-            plan.moved,
-            left,
-            o,
-            ends,
-            blocks,
-            adjustments,
-        ),
-        Action::Move { adjustment: shift } => {
-            write_moved(reach, g, shift, o, ends, blocks, adjustments);
+        Action::Stay => write_stay(interval, g, plan.moved, left, o, ends, blocks, adjustments),
+        Action::Move { adjustment } => {
+            let moved = Interval {
+                end,
+                block: g,
+                adjustment,
+            };
+            write_moved(moved, o, ends, blocks, adjustments);
             o + 1
         }
-        Action::Split {
-            bucket,
-            adjustment: shift,
-        } => {
-            write_two(
-                bucket,
-                block,
+        Action::Split { bucket, adjustment } => {
+            let kept = Interval {
+                end: bucket,
+                ..interval
+            };
+            let moved = Interval {
+                end,
+                block: g,
                 adjustment,
-                reach,
-                g,
-                shift,
-                o,
-                ends,
-                blocks,
-                adjustments,
-            );
+            };
+            write_two(kept, moved, o, ends, blocks, adjustments);
             o + 2
         }
     }
@@ -187,38 +166,27 @@ fn write_parts(
 // Some old block is due less: one pass over the old intervals, with the new buckets behind the last one. The place that it comes to
 // is the number of intervals.
 pub fn write_drained(
-    h: Header,
-    ends: &[u32],
-    blocks: &[u32],
-    adjustments: &[u32],
-    buckets: u32,
-    dues: &[u32; BLOCKS],
+    growth: &Growth,
     new_ends: &mut [u32],
     new_blocks: &mut [u32],
     new_adjustments: &mut [u32],
-) -> Growth
-    requires { Some
-        (DrainsInto new_ends.old new_blocks.old new_adjustments.old h ends.now blocks.now adjustments.now buckets dues.now) }
-    ensures { (tops : List ℕ) (bins : ℕ)
-        → Drains h ends.now blocks.now adjustments.now buckets dues.now tops bins
-        → CountedDrained (lent h tops ends.now blocks.now adjustments.now) (sizes buckets bins) result
-        × Stored 0 (drained (lent h tops ends.now blocks.now adjustments.now) (sizes buckets bins))
-        new_ends.old new_blocks.old new_adjustments.old
+) -> Written
+    requires { Room (length (drained (old_table growth.now) (new_sizes growth.now))) new_ends.old new_blocks.old new_adjustments.old }
+    ensures counted { CountedDrained (old_table growth.now) (new_sizes growth.now) result }
+    ensures stored { Stored 0 (drained (old_table growth.now) (new_sizes growth.now)) new_ends.old new_blocks.old new_adjustments.old
         new_ends.new new_blocks.new new_adjustments.new }
 {
-    let last = h.interval_count as usize - 1;
+    let table = growth.table;
+    let last = table.header.interval_count as usize - 1;
     let mut moved: u32 = 0;
     let mut o: usize = 0;
-    let mut i: usize = 0;
-    while i < last {
-        let start = before(ends, i);
-        let plan = plan_at(ends, blocks, adjustments, dues, i, start, moved);
+    for i in 0..last {
+        let start = before(table.ends, i);
+        let plan = plan_at(table, growth.dues, i, start, moved);
         o = write_parts(
             plan,
-            ends[i],
-            blocks[i],
-            adjustments[i],
-            h.block_count,
+            interval_at(table, i),
+            table.header.block_count,
             0,
             o,
             new_ends,
@@ -226,23 +194,20 @@ pub fn write_drained(
             new_adjustments,
         );
         moved = plan.moved;
-        i += 1;
     }
-    let start = before(ends, i);
-    let plan = plan_at(ends, blocks, adjustments, dues, i, start, moved);
+    let start = before(table.ends, last);
+    let plan = plan_at(table, growth.dues, last, start, moved);
     let place = write_parts(
         plan,
-        ends[i],
-        blocks[i],
-        adjustments[i],
-        h.block_count,
-        buckets - h.buckets,
+        interval_at(table, last),
+        table.header.block_count,
+        growth.buckets - table.header.buckets,
         o,
         new_ends,
         new_blocks,
         new_adjustments,
     );
-    Growth {
+    Written {
         intervals: place as u32,
         moved: plan.moved,
     }

@@ -16,10 +16,8 @@ use Rattle.model.specs.declared.table.Header.{Header}
 use Rattle.model.proofs.Dues.{Block_closed}
 use Rattle.model.proofs.Intervals.{before_mono}
 use Rattle.model.proofs.Rules.{before_next}
-use Rattle.model.proofs.Tables.{lent_interval}
-use Rattle.model.proofs.Wells.{adjustment_most}
 use Rattle.model.proofs.Shares.{due_within}
-use Rattle.expansion_plan.specs.Shares.{TopsWithin, DuesAfter, IntervalAt}
+use Rattle.expansion_plan.specs.Shares.{TopsWithin, DuesAfter, interval_at}
 
 -- at block j: what the bins up to and including it are due is at most B, and is its due more than what those before it are
 pub record DueTurn (s : Shape) (tops : List ℕ) (j : ℕ) : Type 0 where
@@ -59,27 +57,12 @@ module _ (h : Header) (a : Arrays) (formed : Formed h a) where
             );
       }
 
-  -- at interval i of a formed table
-  pub interval_at_lem
-      : (i start w : ℕ) → i < h.interval_count → start ≡ before a.ends i → w ≤ start
-      → IntervalAt a.ends a.blocks a.adjustments i start w
-  interval_at_lem i start w l e b =
-      record {
-        ends_long = omega (arith, formed.ends_long);
-        blocks_long = omega (arith, formed.blocks_long);
-        adjustments_long = omega (arith, formed.adjustments_long);
-        block = omega (arith, formed.blocks_below i l, formed.block_limit);
-        later = omega (arith, formed.ends_rise i l);
-        adjusted = omega (arith, adjustment_most h a formed i l);
-        below = b;
-      }
-
-  -- so the plan for it, from the array of dues
+  -- the plan for interval i, from the array of dues
   pub planned
       : (s : Shape) (dues : List ℕ) → DuesAfter (table h a) s dues → (i start w : ℕ) → i < h.interval_count → (p : Plan)
-      → p ≡ plan (get_or dues (get_or a.blocks i 0) 0) start (lent_interval a i) w → p ≡ plan_for (table h a) s start (lent_interval a i) w
+      → p ≡ plan (get_or dues (get_or a.blocks i 0) 0) start (interval_at a i) w → p ≡ plan_for (table h a) s start (interval_at a i) w
   unfolding plan_for
   planned s dues after i start w l p e =
       e
-      ∙ ap (λ due. plan due start (lent_interval a i) w)
+      ∙ ap (λ due. plan due start (interval_at a i) w)
       (after (get_or a.blocks i 0) (omega (arith, formed.blocks_below i l, formed.block_limit)))

@@ -2,7 +2,7 @@
 use Rattle.std.specs.Prelude.{ℕ, ◌≤◌, ◌<◌, ◌≡◌, List, length, get_or}
 use Rattle.model.specs.Basics.{before}
 use Rattle.model.specs.Limits.{max_blocks}
-use Rattle.model.specs.Table.{Shape, Table}
+use Rattle.model.specs.Table.{Shape, Interval, interval, Table, Arrays}
 use Rattle.model.specs.Lent.{TopsFormed, lent}
 use Rattle.model.specs.Due.{due_of_block}
 use Rattle.model.specs.Refusal.{first}
@@ -37,12 +37,6 @@ DuesAfter t s dues = (j : ℕ) → j < max_blocks → get_or dues j 0 ≡ due_af
 abbrev pub DuesBefore : Table → List ℕ → Type 0
 DuesBefore t dues = (j : ℕ) → j < max_blocks → get_or dues j 0 ≡ has t j
 
--- interval i of three lent arrays, which starts at `start`, where w buckets have moved before it: what its plan needs
-pub record IntervalAt (ends blocks adjustments : List ℕ) (i start w : ℕ) : Type 0 where
-  pub ends_long : i < length ends
-  pub blocks_long : i < length blocks
-  pub adjustments_long : i < length adjustments
-  pub block : get_or blocks i 0 < max_blocks
-  pub later : start < get_or ends i 0
-  pub adjusted : get_or adjustments i 0 ≤ start
-  pub below : w ≤ start
+-- interval i of lent arrays
+abbrev pub interval_at : Arrays → ℕ → Interval
+interval_at a i = interval (get_or a.ends i 0) (get_or a.blocks i 0) (get_or a.adjustments i 0)

@@ -9,41 +9,36 @@ ghost use Rattle.model.specs.Refusal.{first};
 ghost use Rattle.model.specs.Sound.{Formed};
 ghost use Rattle.model.specs.Expansion.{grown_tops, some_fall, plan};
 ghost use Rattle.model.specs.Calls.{growth_tests};
-ghost use Rattle.expansion_plan.specs.Shares.{TopsAsked, TopsWithin, Dues, DuesBefore, DuesAfter, IntervalAt};
+ghost use Rattle.model.specs.Results.{refusal_of};
+ghost use Rattle.model.specs.Basics.{before as entry_before};
+ghost use Rattle.table.specs.Formed.{arrays_of};
+ghost use Rattle.expansion_plan.specs.Shares.{TopsAsked, TopsWithin, Dues, DuesBefore, DuesAfter, interval_at};
 
 use model::limits::{BLOCKS, MAX_BLOCKS};
 use model::plan::{Action, Plan};
+use model::refusal::Refusal;
 use model::table::Header;
-use sizes::{overfull_refusal, size_refusal};
-use table::{bin_count, due_below};
+use sizes::{capacity_allowed, sizes_allowed};
+use table::{FormedTable, bin_count, due_below};
 
-// The number of the first of rules 1 to 5 and 31 that the growth breaks, or 0.
-pub fn growth_refusal(h: Header, tops: &[u32], buckets: u32, bins: u32) -> u32
+// The growth breaks none of rules 1 to 5 and 31. 3: a size falls. 4: nothing changes. 5: a new block, and no room for it.
+pub fn growth_allowed(h: Header, tops: &[u32], buckets: u32, bins: u32) -> Result<(), Refusal>
     requires { TopsFormed h tops.now }
     ensures { (ends blocks adjustments : List ℕ)
-        → result ≡ first (growth_tests (lent h tops.now ends blocks adjustments) (sizes buckets bins)) }
+        → refusal_of result ≡ first (growth_tests (lent h tops.now ends blocks adjustments) (sizes buckets bins)) }
 {
-    let refusal = size_refusal(buckets, bins);
-    if refusal != 0 {
-        return refusal;
-    }
-    if buckets < h.buckets {
-        return 3;
-    }
+    sizes_allowed(buckets, bins)?;
     let old = bin_count(h, tops);
-    if bins < old {
-        return 3;
+    if buckets < h.buckets || bins < old {
+        return Err(Refusal::Shrinks);
     }
-    if old < bins {
-        if h.block_count == MAX_BLOCKS {
-            return 5;
-        }
-        return overfull_refusal(h.capacity, buckets, bins);
+    if bins == old && buckets == h.buckets {
+        return Err(Refusal::Unchanged);
     }
-    if buckets == h.buckets {
-        return 4;
+    if old < bins && h.block_count == MAX_BLOCKS {
+        return Err(Refusal::BlocksFull);
     }
-    overfull_refusal(h.capacity, buckets, bins)
+    capacity_allowed(h.capacity, buckets, bins)
 }
 
 // The number of blocks after the growth: one more if there are more bins.
@@ -68,12 +63,10 @@ pub fn block_dues(tops: &[u32], count: usize, buckets: u32, bins: u32, dues: &mu
     let quotient = buckets / bins;
     let remainder = buckets % bins;
     let mut below: u32 = 0;
-    let mut j: usize = 0;
-    while j < count {
+    for j in 0..count {
         let through = due_below(quotient, remainder, tops[j]);
         dues[j] = through - below;
         below = through;
-        j += 1;
     }
 }
 
@@ -144,24 +137,16 @@ pub fn plan_interval(due: u32, start: u32, end: u32, adjustment: u32, moved: u32
 
 // The plan for old interval i, which starts at `start`, where `moved` buckets have moved before it. `dues` is what each block is
 // due.
-pub fn plan_at(
-    ends: &[u32],
-    blocks: &[u32],
-    adjustments: &[u32],
-    dues: &[u32; BLOCKS],
-    i: usize,
-    start: u32,
-    moved: u32,
-) -> Plan
-    requires { IntervalAt ends.now blocks.now adjustments.now i start moved }
-    ensures { result ≡ plan (get_or dues.now (get_or blocks.now i 0) 0) start
-        (interval (get_or ends.now i 0) (get_or blocks.now i 0) (get_or adjustments.now i 0)) moved }
+pub fn plan_at(table: FormedTable, dues: &[u32; BLOCKS], i: usize, start: u32, moved: u32) -> Plan
+    requires { (i < table.header.interval_count) × (start ≡ entry_before table.ends.now i) × (moved ≤ start) }
+    ensures { result ≡ plan (get_or dues.now (get_or table.entry.blocks.now i 0) 0) start
+        (interval_at (arrays_of table.entry) i) moved }
 {
     plan_interval(
-        dues[blocks[i] as usize],
+        dues[table.blocks[i] as usize],
         start,
-        ends[i],
-        adjustments[i],
+        table.ends[i],
+        table.adjustments[i],
         moved,
     )
 }

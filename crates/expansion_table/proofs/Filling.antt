@@ -1,6 +1,7 @@
 -- A growth by which no old block is due less: its intervals as they are written. Assumes nothing.
 use Prim.Native.Nat.{ℕ, ◌+◌, ◌-◌, ◌^◌, ◌≤◌, ◌<◌}
 use mathlib.Core.Path.{◌≡◌, refl, sym, ◌∙◌, ap}
+use mathlib.Core.Bool.{false}
 use mathlib.Core.List.{List, [], ◌∷◌, ◌++◌, map, append_assoc}
 use native.Mathlib.Omega.{arith}
 use lib.ListN.{length, get_or, take, length-append}
@@ -8,17 +9,19 @@ use lib.Seq.{sets, length-take-le}
 use Rattle.model.specs.Basics.{from}
 use Rattle.model.specs.Limits.{max_blocks}
 use Rattle.model.specs.Table.{Shape, Interval, interval, Arrays, table, over}
-use Rattle.model.specs.Expansion.{grown_tops, lengthened, gain, length_to, pieces, filled}
+use Rattle.model.specs.Expansion.{grown_tops, has, lengthened, gain, length_to, pieces, filled}
 use Rattle.model.specs.declared.table.Header.{Header}
 use Rattle.model.proofs.Entries.{sets_over}
 use Rattle.model.proofs.Tables.{length_from, from_ext, from_get_d, map_from, lent_interval}
 use Rattle.model.proofs.Filled.{last_of}
 use Rattle.model.proofs.Steps.{last_lent, lengthened_lent, end_last, Filled_within, filled_length}
-use Rattle.expansion_count.specs.Given.{Some, Fills}
+use Rattle.expansion_count.specs.declared.growth.Growth.{Growth}
+use Rattle.expansion_count.specs.Made.{piece_of}
+use Rattle.expansion_count.proofs.Parts.{Front}
+use Rattle.expansion_count.specs.Growths.{old_table, new_sizes}
 use Rattle.expansion_drain.specs.Stored.{Room, Stored}
-use Rattle.expansion_count.proofs.Pieces.{fills_well, fills_asked, fills_up, fills_rise, fills_shares, gain_from, blocks_few, had_below}
+use Rattle.expansion_count.proofs.Pieces.{Fills, growth_fills, pieces_take, fills_well, fills_asked, fills_up, gain_from}
 use Rattle.expansion_drain.proofs.Stores.{stored_more}
-use Rattle.expansion_table.specs.Into.{PiecesInto}
 
 module _ (h : Header) (a : Arrays) (s : Shape) (olds dues : List ℕ) (f : Fills h a s olds dues) where
   abbrev last : ℕ
@@ -76,6 +79,11 @@ module _ (h : Header) (a : Arrays) (s : Shape) (olds dues : List ℕ) (f : Fills
       (pieces (table h a) s (length_to (table h a) s) 0 (length (grown_tops (table h a) s)))
       (filled_lent (length_to (table h a) s) refl ∙ append_assoc (from (lent_interval a) 0 last) _ _)
 
+  -- the pieces begin behind the old buckets
+  pub start_most : h.buckets ≤ length_to (table h a) s
+  unfolding table
+  start_most = omega arith
+
   pub piece_most
       : (done : List Interval) (i : Interval) (behind : List Interval)
       → done ++ (i ∷ behind) ≡ pieces (table h a) s (length_to (table h a) s) 0 (length (grown_tops (table h a) s))
@@ -120,33 +128,6 @@ module _ (h : Header) (a : Arrays) (s : Shape) (olds dues : List ℕ) (f : Fills
             copied_stored (λ i. i.adjustment) a.adjustments _ _ (λ i. refl) formed.adjustments_long r.adjustments copied.2;
       }
 
-  -- the pieces of n blocks from bucket e on, and room for them
-  pub pieces_into
-      : {es bs cs : List ℕ} (e n : ℕ) → e ≡ length_to (table h a) s → n ≡ length (grown_tops (table h a) s) → s.buckets < 2 ^ 32
-      → Room (h.interval_count + length (pieces (table h a) s e 0 n)) es bs cs
-      → Some (PiecesInto es bs cs block olds dues n e h.interval_count)
-  unfolding table
-  pieces_into e n q c fits room =
-      record {
-        one = table h a;
-        other = s;
-        holds = record {
-          shares = fills_shares h a s olds dues f;
-          rise = fills_rise h a s olds dues f;
-          few = blocks_few h a s olds dues f n c;
-          had = λ j l. had_below h a s olds dues f j e l (omega arith);
-          fits = λ done i behind k.
-              omega (
-                arith,
-                piece_most done i behind
-                    (k
-                    ∙ ap (λ m. pieces (table h a) s m 0 n) q
-                    ∙ ap (pieces (table h a) s (length_to (table h a) s) 0) c),
-              );
-          room = room;
-        };
-      }
-
   -- how many they are
   pub filled_pieces
       : (e n : ℕ) → e ≡ length_to (table h a) s → n ≡ length (grown_tops (table h a) s)
@@ -168,3 +149,40 @@ module _ (h : Header) (a : Arrays) (s : Shape) (olds dues : List ℕ) (f : Fills
       (omega (arith, length-append (from (lent_interval a) 0 last) (interval e block (get_or a.adjustments last 0) ∷ [])))
       (stored_more last (omega arith) x y)
       w)
+
+-- so the pieces of a growth end below 2^32
+pub piece_fits
+    : (g : Growth) → g.falls ≡ false → (start : ℕ) → start ≡ length_to (old_table g) (new_sizes g)
+    → (done : List Interval) (i : Interval) (behind : List Interval)
+    → done ++ (i ∷ behind) ≡ pieces (old_table g) (new_sizes g) start 0 g.block_count → i.end < 2 ^ 32
+piece_fits g e start q done i behind k =
+    let fills = growth_fills g e in
+    omega (
+      arith,
+      piece_most _ _ _ _ _ fills done i behind
+          (k
+          ∙ ap (λ m. pieces (old_table g) (new_sizes g) m 0 g.block_count) q
+          ∙ ap (pieces (old_table g) (new_sizes g) (length_to (old_table g) (new_sizes g)) 0) g.grows.counted),
+      (fills_asked _ _ _ _ _ fills).bucket_limit,
+    )
+
+-- in a turn in which block j gains, its piece comes first
+pub piece_turn
+    : (g : Growth) (j at gained : ℕ) → j < g.block_count → j < max_blocks → gained ≡ piece_of (old_table g) (new_sizes g) j
+    → (gained ≡ 0 → ⊥)
+    → Front
+    (pieces (old_table g) (new_sizes g) at j (g.block_count - j))
+    (interval (at + gained) j (at - get_or g.olds.now j 0) ∷ [])
+    (pieces (old_table g) (new_sizes g) (at + gained) (j + 1) (g.block_count - (j + 1)))
+piece_turn g j at gained l few e n =
+    let t = old_table g in
+    let s = new_sizes g in
+    let behind = g.block_count - (j + 1) in
+    record {
+      joined =
+          pieces_take t s j at g.block_count l (λ q. n (e ∙ q))
+          ∙ ap (λ d. interval (at + d) j (at - has t j) ∷ pieces t s (at + d) (j + 1) behind) (sym e)
+          ∙ ap
+          (λ d. interval (at + gained) j (at - d) ∷ pieces t s (at + gained) (j + 1) behind)
+          (sym (g.grows.before j few));
+    }

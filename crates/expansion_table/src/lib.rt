@@ -1,260 +1,165 @@
 // The writing pass of a growth: its tops, and its intervals by the case.
 #![tactic(auto)]
 
-ghost use Rattle.std.specs.Prelude.{false, List, ◌≡◌, ℕ, ◌+◌, ◌≤◌, length, take};
-ghost use Rattle.model.specs.Lent.{lent};
+ghost use Rattle.std.specs.Prelude.{false, ◌≡◌, ◌+◌, ◌≤◌, length};
 ghost use Rattle.model.specs.Limits.{max_blocks, max_intervals};
-ghost use Rattle.model.specs.Table.{Shape, Table, arrays, over, written, sizes};
+ghost use Rattle.model.specs.Table.{arrays, over, written};
 ghost use Rattle.model.specs.Refusal.{room_short};
-ghost use Rattle.model.specs.Expansion.{grown_tops, pieces as pieces_of, filled, expanded};
-ghost use Rattle.expansion_count.specs.Given.{Some, Grows, Fills, Shares};
+ghost use Rattle.model.specs.Expansion.{grown_tops, length_to, pieces as pieces_of, filled, expanded};
+ghost use Rattle.expansion_count.specs.Growths.{old_table, new_sizes};
 ghost use Rattle.expansion_count.specs.Made.{Counted};
 ghost use Rattle.expansion_drain.specs.Stored.{Room, Stored};
 ghost use Rattle.expansion_table.specs.Copied.{Copied};
-ghost use Rattle.expansion_table.specs.Into.{PiecesInto, FillsInto, GrowsInto};
 
-use expansion_count::{Growth, piece};
-use expansion_drain::{write_drained, write_interval};
-use model::limits::BLOCKS;
-use model::table::Header;
-use table::copy;
+use expansion_count::{Growth, Written, piece};
+use expansion_drain::{Interval, interval_at, write_drained, write_interval};
+use table::{FormedTable, copy};
 
-// No old block is due less: one pass over the `count` blocks, whose pieces begin at bucket `start` and go to the places from
-// `place` on. `last` is the last old interval's block, which has none. The next place.
+// No old block is due less: one pass over the blocks after the growth, whose pieces begin at bucket `start` and go to the places
+// from `place` on. The next place.
 fn write_pieces(
-    last: u32,
-    olds: &[u32; BLOCKS],
-    dues: &[u32; BLOCKS],
-    count: u32,
+    growth: &Growth,
     start: u32,
     place: usize,
     new_ends: &mut [u32],
     new_blocks: &mut [u32],
     new_adjustments: &mut [u32],
 ) -> usize
-    requires { Some (PiecesInto new_ends.old new_blocks.old new_adjustments.old last olds.now dues.now count start place) }
-    ensures { (t : Table) (s : Shape) → Shares t s last olds.now dues.now
-        → (result ≡ place + length (pieces_of t s start 0 count))
-        × Stored place (pieces_of t s start 0 count)
-        new_ends.old new_blocks.old new_adjustments.old
-        new_ends.new new_blocks.new new_adjustments.new }
+    requires none_falls { growth.now.falls ≡ false }
+    requires start_value { start ≡ length_to (old_table growth.now) (new_sizes growth.now) }
+    requires room { Room (place + length (pieces_of (old_table growth.now) (new_sizes growth.now) start 0 growth.now.block_count))
+        new_ends.old new_blocks.old new_adjustments.old }
+    ensures place { result ≡ place + length (pieces_of (old_table growth.now) (new_sizes growth.now) start 0 growth.now.block_count) }
+    ensures stored { Stored place (pieces_of (old_table growth.now) (new_sizes growth.now) start 0 growth.now.block_count)
+        new_ends.old new_blocks.old new_adjustments.old new_ends.new new_blocks.new new_adjustments.new }
 {
+    let last = growth.last_block();
     let mut at = start;
     let mut o = place;
-    let mut j: usize = 0;
-    while j < count as usize {
-        let gained = piece(last, olds, dues, j);
-        let block = j;
-        j += 1;
+    for j in 0..growth.block_count as usize {
+        let gained = piece(last, growth.olds, growth.dues, j);
         if gained != 0 {
-            let end = at + gained;
-            write_interval(
-                end,
-                block as u32,
-                at - olds[block],
-                o,
-                new_ends,
-                new_blocks,
-                new_adjustments,
-            );
-            at = end;
+            let interval = Interval {
+                end: at + gained,
+                block: j as u32,
+                adjustment: at - growth.olds[j],
+            };
+            write_interval(interval, o, new_ends, new_blocks, new_adjustments);
+            at = interval.end;
             o += 1;
         }
     }
     o
 }
 
-// Copies the first `count` intervals.
+// Copies the first `count` intervals. Of a table of one interval the growth keeps none, and three calls to copy nothing would cost
+// a sixth of its time.
 fn copy_intervals(
-    ends: &[u32],
-    blocks: &[u32],
-    adjustments: &[u32],
+    table: FormedTable,
     count: usize,
     new_ends: &mut [u32],
     new_blocks: &mut [u32],
     new_adjustments: &mut [u32],
 )
-    requires count_le_max_intervals { count ≤ max_intervals }
-    requires room { Room count ends.now blocks.now adjustments.now }
-    requires room_2 { Room count new_ends.old new_blocks.old new_adjustments.old }
-    ensures { Copied count ends.now new_ends.old new_ends.new × Copied count blocks.now new_blocks.old new_blocks.new
-        × Copied count adjustments.now new_adjustments.old new_adjustments.new }
+    requires count_in_bounds { count ≤ table.header.interval_count }
+    requires room { Room count new_ends.old new_blocks.old new_adjustments.old }
+    ensures { Copied count table.entry.ends.now new_ends.old new_ends.new × Copied count table.entry.blocks.now new_blocks.old new_blocks.new
+        × Copied count table.entry.adjustments.now new_adjustments.old new_adjustments.new }
 {
-    copy(ends, count, new_ends);
-    copy(blocks, count, new_blocks);
-    copy(adjustments, count, new_adjustments);
+    if count == 0 {
+        return;
+    }
+    copy(table.ends, count, new_ends);
+    copy(table.blocks, count, new_blocks);
+    copy(table.adjustments, count, new_adjustments);
 }
 
 // No old block is due less: the old intervals, the last one lengthened by what its block gains, and the pieces of the other
-// blocks, of which there are `count` after the growth. The place that it comes to is the number of intervals.
+// blocks. The place that it comes to is the number of intervals.
 fn write_filled(
-    h: Header,
-    ends: &[u32],
-    blocks: &[u32],
-    adjustments: &[u32],
-    olds: &[u32; BLOCKS],
-    dues: &[u32; BLOCKS],
-    count: u32,
+    growth: &Growth,
     new_ends: &mut [u32],
     new_blocks: &mut [u32],
     new_adjustments: &mut [u32],
 ) -> usize
-    requires { Some
-        (FillsInto new_ends.old new_blocks.old new_adjustments.old
-        h ends.now blocks.now adjustments.now olds.now dues.now count) }
-    ensures { (tops : List ℕ) (s : Shape)
-        → Fills h (arrays tops ends.now blocks.now adjustments.now) s
-        olds.now dues.now
-        → count ≡ length (grown_tops (lent h tops ends.now blocks.now adjustments.now) s)
-        → (result ≡ length (filled (lent h tops ends.now blocks.now adjustments.now) s))
-        × Stored 0 (filled (lent h tops ends.now blocks.now adjustments.now) s)
-        new_ends.old new_blocks.old new_adjustments.old
+    requires none_falls { growth.now.falls ≡ false }
+    requires room { Room (length (filled (old_table growth.now) (new_sizes growth.now))) new_ends.old new_blocks.old new_adjustments.old }
+    ensures place { result ≡ length (filled (old_table growth.now) (new_sizes growth.now)) }
+    ensures stored { Stored 0 (filled (old_table growth.now) (new_sizes growth.now)) new_ends.old new_blocks.old new_adjustments.old
         new_ends.new new_blocks.new new_adjustments.new }
 {
-    let last = h.interval_count as usize - 1;
-    let block = blocks[last];
-    let end = h.buckets + (dues[block as usize] - olds[block as usize]);
-    copy_intervals(
-        ends,
-        blocks,
-        adjustments,
-        last,
-        new_ends,
-        new_blocks,
-        new_adjustments,
-    );
+    let table = growth.table;
+    let last = table.header.interval_count as usize - 1;
+    let interval = interval_at(table, last);
+    let block = interval.block as usize;
+    let end = table.header.buckets + (growth.dues[block] - growth.olds[block]);
+    copy_intervals(table, last, new_ends, new_blocks, new_adjustments);
     write_interval(
-        end,
-        block,
-        adjustments[last],
+        Interval { end, ..interval },
         last,
         new_ends,
         new_blocks,
         new_adjustments,
     );
     write_pieces(
-        block,
-        olds,
-        dues,
-        count,
+        growth,
         end,
-        h.interval_count as usize,
+        table.header.interval_count as usize,
         new_ends,
         new_blocks,
         new_adjustments,
     )
 }
 
-// The new tops: the `old` ones, and the new block's if there are more blocks after the growth.
-fn write_tops(tops: &[u32], old: u32, count: u32, bins: u32, new_tops: &mut [u32])
-    requires { (old ≤ length tops.now) × (old ≤ max_blocks) × (count ≤ max_blocks) × (max_blocks ≤ length new_tops.old) }
-    ensures { (t : Table) (s : Shape) → t.tops ≡ take old tops.now → s.bins ≡ bins
-        → count ≡ length (grown_tops t s) → new_tops.new ≡ over (grown_tops t s) new_tops.old }
+// The new tops: the old ones, and the new block's if there are more blocks after the growth.
+fn write_tops(growth: &Growth, new_tops: &mut [u32])
+    requires { max_blocks ≤ length new_tops.old }
+    ensures { new_tops.new ≡ over (grown_tops (old_table growth.now) (new_sizes growth.now)) new_tops.old }
 {
-    copy(tops, old as usize, new_tops);
-    if old < count {
-        new_tops[old as usize] = bins;
+    let old = growth.table.header.block_count;
+    copy(growth.table.tops, old as usize, new_tops);
+    if old < growth.block_count {
+        new_tops[old as usize] = growth.bins;
     }
 }
 
-// The new intervals, by the case: `falls` says that some old block is due less. How many they are, and the buckets that move.
+// The new intervals, by the case. How many they are, and the buckets that move.
 fn write_intervals(
-    h: Header,
-    ends: &[u32],
-    blocks: &[u32],
-    adjustments: &[u32],
-    buckets: u32,
-    olds: &[u32; BLOCKS],
-    dues: &[u32; BLOCKS],
-    falls: bool,
-    count: u32,
+    growth: &Growth,
     new_ends: &mut [u32],
     new_blocks: &mut [u32],
     new_adjustments: &mut [u32],
-) -> Growth
-    requires { Some
-        (GrowsInto new_ends.old new_blocks.old new_adjustments.old
-        h ends.now blocks.now adjustments.now buckets olds.now dues.now falls count) }
-    ensures { (tops : List ℕ) (bins : ℕ)
-        → Grows h ends.now blocks.now adjustments.now
-        buckets olds.now dues.now falls count tops bins
-        → Counted (lent h tops ends.now blocks.now adjustments.now) (sizes buckets bins) result
-        × Stored 0 (expanded (lent h tops ends.now blocks.now adjustments.now) (sizes buckets bins)).intervals
-        new_ends.old new_blocks.old new_adjustments.old
+) -> Written
+    requires { Room (length (expanded (old_table growth.now) (new_sizes growth.now)).intervals) new_ends.old new_blocks.old new_adjustments.old }
+    ensures counted { Counted (old_table growth.now) (new_sizes growth.now) result }
+    ensures stored { Stored 0 (expanded (old_table growth.now) (new_sizes growth.now)).intervals new_ends.old new_blocks.old new_adjustments.old
         new_ends.new new_blocks.new new_adjustments.new }
 {
-    if falls {
-        return write_drained(
-            h,
-            ends,
-            blocks,
-            adjustments,
-            buckets,
-            dues,
-            new_ends,
-            new_blocks,
-            new_adjustments,
-        );
+    if growth.falls {
+        return write_drained(growth, new_ends, new_blocks, new_adjustments);
     }
-    let intervals = write_filled(
-        h,
-        ends,
-        blocks,
-        adjustments,
-        olds,
-        dues,
-        count,
-        new_ends,
-        new_blocks,
-        new_adjustments,
-    );
-    Growth {
+    let intervals = write_filled(growth, new_ends, new_blocks, new_adjustments);
+    Written {
         intervals: intervals as u32,
         moved: 0,
     }
 }
 
-// The growth's table, into arrays with room for it. `olds` and `dues` are what each block has, and is due after the growth;
-// `falls` says that some old block is due less, and `count` is the number of blocks after it. The intervals written, and the buckets
-// that move.
+// The growth's table, into arrays with room for it. The intervals written, and the buckets that move.
 pub fn write_expanded(
-    h: Header,
-    tops: &[u32],
-    ends: &[u32],
-    blocks: &[u32],
-    adjustments: &[u32],
-    buckets: u32,
-    bins: u32,
-    olds: &[u32; BLOCKS],
-    dues: &[u32; BLOCKS],
-    falls: bool,
-    count: u32,
+    growth: &Growth,
     new_tops: &mut [u32],
     new_ends: &mut [u32],
     new_blocks: &mut [u32],
     new_adjustments: &mut [u32],
-) -> Growth
-    requires grows { Grows h ends.now blocks.now adjustments.now buckets olds.now dues.now falls count tops.now bins }
+) -> Written
     requires room { room_short (arrays new_tops.old new_ends.old new_blocks.old new_adjustments.old) ≡ false }
-    requires bins_len_bound { length (expanded (lent h tops.now ends.now blocks.now adjustments.now) (sizes buckets bins)).intervals ≤ max_intervals }
-    ensures counted { Counted (lent h tops.now ends.now blocks.now adjustments.now) (sizes buckets bins) result }
+    requires bins_len_bound { length (expanded (old_table growth.now) (new_sizes growth.now)).intervals ≤ max_intervals }
+    ensures counted { Counted (old_table growth.now) (new_sizes growth.now) result }
     ensures written { arrays new_tops.new new_ends.new new_blocks.new new_adjustments.new ≡ written
-        (expanded (lent h tops.now ends.now blocks.now adjustments.now) (sizes buckets bins))
+        (expanded (old_table growth.now) (new_sizes growth.now))
         (arrays new_tops.old new_ends.old new_blocks.old new_adjustments.old) }
 {
-    write_tops(tops, h.block_count, count, bins, new_tops);
-    write_intervals(
-        h,
-        ends,
-        blocks,
-        adjustments,
-        buckets,
-        olds,
-        dues,
-        falls,
-        count,
-        new_ends,
-        new_blocks,
-        new_adjustments,
-    )
+    write_tops(growth, new_tops);
+    write_intervals(growth, new_ends, new_blocks, new_adjustments)
 }

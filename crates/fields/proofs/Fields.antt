@@ -1,11 +1,11 @@
 -- Laws of a number's digits in a field: with zeros before them, with blanks in their place, and stored up to a place. Assumes nothing.
 use Prim.Native.Nat.{ℕ, zero, suc, ◌+◌, ◌-◌, ◌/◌, ◌%◌, ◌≤◌, ◌<◌}
 use mathlib.Core.Path.{◌≡◌, refl, sym, ◌∙◌, ap}
-use mathlib.Core.Logic.{inr, ⊎_elim}
+use mathlib.Core.Logic.{⊎_elim}
 use mathlib.Core.List.{List, [], ◌∷◌, ◌++◌, append-nil, append_assoc}
 use native.Mathlib.Nat.{add-zero, zero-add}
 use native.Mathlib.Omega.{arith}
-use lib.ListN.{length, drop, replicate, set, length-append, length-set, length-replicate, replicate-append-replicate}
+use lib.ListN.{length, replicate, set, length-append, length-set, length-replicate, replicate-append-replicate}
 use lib.Seq.{sets, length-sets, set-set}
 use Rattle.model.specs.Decimal.{decimal}
 use Rattle.model.specs.Sheet.{blanks, field}
@@ -13,8 +13,7 @@ use Rattle.model.proofs.Counts.{below_or}
 use Rattle.model.proofs.Decimals.{decimal_one, decimal_short, decimal_few, decimal_some, decimal_many}
 use Rattle.model.proofs.Entries.{sets_swap, sets_more, Put, put_none, put_more}
 use Rattle.digits.specs.Parts.{pair_of, four_of}
-use Rattle.decimal.proofs.Pairs.{decimal_two, decimal_pair}
-use Rattle.decimal.proofs.Leading.{four_high, four_low, lead_ten}
+use Rattle.decimal.proofs.Pairs.{decimal_two, decimal_pair, decimal_eight}
 
 -- ZEROS BEFORE THE DIGITS
 
@@ -67,6 +66,13 @@ padded_more m n zs f l e =
     ∙ ap (λ k. zeros k ++ decimal n) columns)
     (below_or n 100)
 
+-- the two pairs of a number's last four digits
+four_high : (n : ℕ) → n % 10_000 / 100 ≡ n / 100 % 100
+four_high n = omega arith
+
+four_low : (n : ℕ) → n % 10_000 % 100 ≡ n % 100
+four_low n = omega arith
+
 pub padded_eight : (n : ℕ) → n < 100_000_000 → four_of (n / 10_000) ++ four_of (n % 10_000) ≡ padded 8 n
 padded_eight n u =
     let first : n / 100 / 100 ≡ n / 10_000 = omega arith in
@@ -84,19 +90,12 @@ pub nine_field
     → 32 ∷ (48 + n / 100_000_000) ∷ (four_of (n % 100_000_000 / 10_000) ++ four_of (n % 100_000_000 % 10_000)) ≡ field n
 unfolding field
 nine_field n l u =
-    let one : n / 100_000_000 % 10 ≡ n / 100_000_000 = omega arith in
     let eight = four_of (n % 100_000_000 / 10_000) ++ four_of (n % 100_000_000 % 10_000) in
-    let digits : (48 + n / 100_000_000) ∷ eight ≡ decimal n = rw (← one) (ap (drop 1) leading) in
+    let digits : (48 + n / 100_000_000) ∷ eight ≡ decimal n =
+    sym (decimal_eight n (omega arith) l ∙ ap (λ (ds : List ℕ). ds ++ eight) (decimal_one (n / 100_000_000) (omega arith)))
+    in
     let width : 1 ≡ 10 - length (decimal n) = omega (arith, ap length digits) in
     ap (λ (ds : List ℕ). 32 ∷ ds) digits ∙ ap (λ k. blanks k ++ decimal n) width
-  where
-    leading
-        : pair_of (n / 100_000_000) ++ (four_of (n % 100_000_000 / 10_000) ++ four_of (n % 100_000_000 % 10_000)) ≡ 48 ∷ decimal n
-    leading =
-        ⊎_elim
-        (λ same. absurd (omega (arith, same.1)))
-        (λ zero. zero.0)
-        (lead_ten {at = 0} {o = 0} {r = 1} refl n l (omega arith) (inr (u, refl)))
 
 -- BLANKS IN THEIR PLACE
 

@@ -18,11 +18,7 @@ fn put_blanks(out: &mut [u8], at: usize)
     requires { at + 10 ≤ length out.old }
     ensures { out.new ≡ sets out.old at (blanks 10) }
 {
-    let mut i: usize = 0;
-    while i < 10 {
-        out[at + i] = BLANK;
-        i += 1;
-    }
+    out[at..at + 10].fill(BLANK);
 }
 
 // The digits of a number below 100, up to place `end`.
@@ -32,7 +28,7 @@ fn put_up_to(n: u32, out: &mut [u8], end: usize)
     ensures { out.new ≡ sets out.old (end - length (decimal n)) (decimal n) }
 {
     if n < 10 {
-        out[end - 1] = (48 + n) as u8;
+        out[end - 1] = b'0' + n as u8;
         return;
     }
     put_pair(n, out, end - 2);
@@ -85,7 +81,7 @@ fn put_nine(n: u32, out: &mut [u8], at: usize)
     ensures { out.new ≡ sets out.old at (field n) }
 {
     out[at] = BLANK;
-    out[at + 1] = (48 + n / 100_000_000) as u8;
+    out[at + 1] = b'0' + (n / 100_000_000) as u8;
     put_digits(n % 100_000_000, out, at + 2);
 }
 
@@ -113,10 +109,8 @@ pub fn put_pairs(out: &mut [u8])
     requires { 200 ≤ length out.old }
     ensures { out.new ≡ sets out.old 0 (pairs_to 100) }
 {
-    let mut n: u32 = 0;
-    while n < 100 {
+    for n in 0..100 {
         put_pair(n, out, 2 * n as usize);
-        n += 1;
     }
 }
 
@@ -148,7 +142,7 @@ pub fn copy_field(pairs: &[u8], n: u32, out: &mut [u8], at: usize)
         rest /= 100;
     }
     if rest < 10 {
-        out[end - 1] = (48 + rest) as u8;
+        out[end - 1] = b'0' + rest as u8;
         return;
     }
     copy_pair(pairs, rest, out, end - 2);

@@ -1,62 +1,40 @@
 // Fresh maps and room.
-ghost use Rattle.std.specs.Prelude.{◌<◌, ◌≤◌};
+ghost use Rattle.std.specs.Prelude.{◌≤◌};
 
-use crate::print::{end, first, number, text};
-use model::limits::MAX_CAPACITY;
+use crate::print::{line, numbers};
+use model::limits::{BLOCKS, INTERVALS, MAX_BUCKETS, MAX_CAPACITY};
 use model::reply::TableReply;
 use std::io;
 
-const MOST: u32 = 1_000_000_000;
-
-const OVER: u32 = 1_000_000_001;
-
-const LAST: u32 = 4_294_967_295;
+const OVER: u32 = MAX_BUCKETS + 1;
 
 // Sizes asked for, with the capacity of document 01's figures: these, then refusals 1 and 2 at their edges.
-const SIZES: [u32; 20] = [
-    65_535,
-    65_535,
-    65_536,
-    65_536,
-    1_000_000_001,
-    1,
-    1_000_000_000,
-    65_535,
-    0,
-    1,
-    1,
-    0,
-    1,
-    1,
-    1,
-    2,
-    65_534,
-    65_535,
-    4_294_967_295,
-    4_294_967_295,
+const SIZES: [[u32; 2]; 10] = [
+    [65_535, 65_535],
+    [65_536, 65_536],
+    [1_000_000_001, 1],
+    [1_000_000_000, 65_535],
+    [0, 1],
+    [1, 0],
+    [1, 1],
+    [1, 2],
+    [65_534, 65_535],
+    [4_294_967_295, 4_294_967_295],
 ];
 
-fn size(i: usize) -> u32
-    requires { i < 20 }
-{
-    SIZES[i]
-}
-
 pub fn sizes(rt: &impl Print) -> io::Result<()> {
-    let mut i: usize = 0;
-    while i < 10 {
-        fresh(rt, size(2 * i), size(2 * i + 1), MAX_CAPACITY)?;
-        i += 1;
+    for [buckets, bins] in SIZES {
+        fresh(rt, buckets, bins, MAX_CAPACITY)?;
     }
     Ok(())
 }
 
 // sizes, capacity; the reply; the first two entries of each array: written, and kept
 fn fresh(rt: &impl Print, buckets: u32, bins: u32, capacity: u32) -> io::Result<()> {
-    let mut tops = [7u32; 65];
-    let mut ends = [7u32; 2081];
-    let mut blocks = [7u32; 2081];
-    let mut adjustments = [7u32; 2081];
+    let mut tops = [7u32; BLOCKS];
+    let mut ends = [7u32; INTERVALS];
+    let mut blocks = [7u32; INTERVALS];
+    let mut adjustments = [7u32; INTERVALS];
     let reply = irr::initial(
         buckets,
         bins,
@@ -66,30 +44,27 @@ fn fresh(rt: &impl Print, buckets: u32, bins: u32, capacity: u32) -> io::Result<
         &mut blocks,
         &mut adjustments,
     );
-    text(rt, b"fresh")?;
-    number(rt, buckets)?;
-    number(rt, bins)?;
-    number(rt, capacity)?;
-    end(rt)?;
+    println!(rt; "fresh {buckets} {bins} {capacity}")?;
     replied(rt, reply)?;
-    text(rt, b"  entries")?;
-    first(rt, &tops, 2)?;
-    first(rt, &ends, 2)?;
-    first(rt, &blocks, 2)?;
-    first(rt, &adjustments, 2)?;
-    end(rt)
+    print!(rt; "  entries")?;
+    for array in [&tops[..2], &ends[..2], &blocks[..2], &adjustments[..2]] {
+        numbers(rt, array)?;
+    }
+    println!(rt)
 }
 
 // refusal, moved, header
 fn replied(rt: &impl Print, reply: TableReply) -> io::Result<()> {
-    text(rt, b"  reply")?;
-    number(rt, reply.refusal)?;
-    number(rt, reply.moved)?;
-    number(rt, reply.header.buckets)?;
-    number(rt, reply.header.capacity)?;
-    number(rt, reply.header.block_count)?;
-    number(rt, reply.header.interval_count)?;
-    end(rt)
+    let h = reply.header;
+    let numbers = [
+        reply.refusal,
+        reply.moved,
+        h.buckets,
+        h.capacity,
+        h.block_count,
+        h.interval_count,
+    ];
+    line(rt, "  reply", &numbers)
 }
 
 // Fresh maps. Of (10, 2) a bin holds 5, of (11, 2) the first one 6, and the label has 8 positions more. 30 comes before 1 and 2;
@@ -103,8 +78,8 @@ pub fn maps(rt: &impl Print) -> io::Result<()> {
     fresh(rt, 12, 3, 13)?;
     fresh(rt, 10, 2, 0)?;
     fresh(rt, 10, 2, OVER)?;
-    fresh(rt, 10, 2, LAST)?;
-    fresh(rt, 10, 2, MOST)?;
+    fresh(rt, 10, 2, u32::MAX)?;
+    fresh(rt, 10, 2, MAX_BUCKETS)?;
     labels(rt)?;
     most_maps(rt)?;
     order(rt)
@@ -120,14 +95,14 @@ fn labels(rt: &impl Print) -> io::Result<()> {
 
 // The most buckets, in one bin and in more. In 43 bins, P n is above a multiple of 2^32 by less than B.
 fn most_maps(rt: &impl Print) -> io::Result<()> {
-    fresh(rt, MOST, 1, MOST)?;
-    fresh(rt, 999_999_993, 1, MOST)?;
-    fresh(rt, 999_999_992, 1, MOST)?;
+    fresh(rt, MAX_BUCKETS, 1, MAX_CAPACITY)?;
+    fresh(rt, 999_999_993, 1, MAX_CAPACITY)?;
+    fresh(rt, 999_999_992, 1, MAX_CAPACITY)?;
     fresh(rt, 999_999_992, 1, 999_999_999)?;
-    fresh(rt, MOST, 43, MOST)?;
-    fresh(rt, MOST, 1, 999_999_999)?;
-    fresh(rt, MOST, 65_535, 15_268)?;
-    fresh(rt, MOST, 65_535, 15_267)
+    fresh(rt, MAX_BUCKETS, 43, MAX_CAPACITY)?;
+    fresh(rt, MAX_BUCKETS, 1, 999_999_999)?;
+    fresh(rt, MAX_BUCKETS, 65_535, 15_268)?;
+    fresh(rt, MAX_BUCKETS, 65_535, 15_267)
 }
 
 fn order(rt: &impl Print) -> io::Result<()> {
@@ -141,17 +116,17 @@ fn order(rt: &impl Print) -> io::Result<()> {
 
 // 21: one entry short in each array. The capacity and the sizes would be refused too.
 pub fn rooms(rt: &impl Print) -> io::Result<()> {
-    asked(rt, b"room for all", 65, 2_081, 2_081, 2_081)?;
-    asked(rt, b"64 tops", 64, 2_081, 2_081, 2_081)?;
-    asked(rt, b"2080 ends", 65, 2_080, 2_081, 2_081)?;
-    asked(rt, b"2080 blocks", 65, 2_081, 2_080, 2_081)?;
-    asked(rt, b"2080 adjustments", 65, 2_081, 2_081, 2_080)
+    asked(rt, "room for all", 65, 2_081, 2_081, 2_081)?;
+    asked(rt, "64 tops", 64, 2_081, 2_081, 2_081)?;
+    asked(rt, "2080 ends", 65, 2_080, 2_081, 2_081)?;
+    asked(rt, "2080 blocks", 65, 2_081, 2_080, 2_081)?;
+    asked(rt, "2080 adjustments", 65, 2_081, 2_081, 2_080)
 }
 
 // So many entries of each array are lent.
 fn asked(
     rt: &impl Print,
-    words: &[u8],
+    words: &str,
     tops: usize,
     ends: usize,
     blocks: usize,
@@ -162,10 +137,10 @@ fn asked(
     requires blocks_bound { blocks ≤ 2081 }
     requires adjustments_bound { adjustments ≤ 2081 }
 {
-    let mut all_tops = [7u32; 65];
-    let mut all_ends = [7u32; 2081];
-    let mut all_blocks = [7u32; 2081];
-    let mut all_adjustments = [7u32; 2081];
+    let mut all_tops = [7u32; BLOCKS];
+    let mut all_ends = [7u32; INTERVALS];
+    let mut all_blocks = [7u32; INTERVALS];
+    let mut all_adjustments = [7u32; INTERVALS];
     let reply = irr::initial(
         0,
         0,
@@ -175,19 +150,13 @@ fn asked(
         &mut all_blocks[..blocks],
         &mut all_adjustments[..adjustments],
     );
-    text(rt, words)?;
-    number(rt, reply.refusal)?;
-    end(rt)
+    line(rt, words, &[reply.refusal])
 }
 
 // expansions; refusal, intervals. 9.
 fn room(rt: &impl Print, expansions: u32) -> io::Result<()> {
     let reply = irr::room(expansions);
-    text(rt, b"room")?;
-    number(rt, expansions)?;
-    number(rt, reply.refusal)?;
-    number(rt, reply.intervals)?;
-    end(rt)
+    line(rt, "room", &[expansions, reply.refusal, reply.intervals])
 }
 
 // Every number of expansions that is answered, and the next one. m(m + 1) fits in 32 bits for 65,535 and not for 65,536; modulo 2^32 it is 2 and 0 for the last two.

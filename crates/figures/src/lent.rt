@@ -1,399 +1,218 @@
 // Lent tables, right and wrong: rules 11 to 16, each at its edge on both sides, and 30 by the most buckets. The refusal is that of placing bucket 0.
-ghost use Rattle.std.specs.Prelude.{◌<◌, ◌≤◌};
+ghost use Rattle.std.specs.Prelude.{◌≤◌};
 
-use crate::print::{placed, text};
+use crate::calls::{Lent, header};
+use crate::print::line;
 use crate::read::place;
-use model::limits::MAX_CAPACITY;
-use model::table::Header;
 use std::io;
 
-// A case is 11 numbers: B, G, k; two tops, two ends, two blocks, two adjustments.
-const CASES: [u32; 297] = [
-    // right
-    10,
-    2,
-    2,
-    2,
-    3,
-    7,
-    10,
-    0,
-    1,
-    0,
-    7,
+// The header's numbers but for the capacity, and the arrays.
+#[derive(Clone, Copy)]
+struct Case {
+    buckets: u32,
+    block_count: u32,
+    interval_count: u32,
+    tops: [u32; 2],
+    ends: [u32; 2],
+    blocks: [u32; 2],
+    adjustments: [u32; 2],
+}
+
+const RIGHT: Case = Case {
+    buckets: 10,
+    block_count: 2,
+    interval_count: 2,
+    tops: [2, 3],
+    ends: [7, 10],
+    blocks: [0, 1],
+    adjustments: [0, 7],
+};
+
+// One interval.
+const FRESH: Case = Case {
+    buckets: 0,
+    block_count: 1,
+    interval_count: 1,
+    tops: [0, 0],
+    ends: [0, 0],
+    blocks: [0, 0],
+    adjustments: [0, 0],
+};
+
+const CASES: [Case; 27] = [
+    RIGHT,
     // 11: no bucket
-    0,
-    2,
-    2,
-    2,
-    3,
-    7,
-    10,
-    0,
-    1,
-    0,
-    7,
+    Case {
+        buckets: 0,
+        ..RIGHT
+    },
     // no block
-    10,
-    0,
-    2,
-    2,
-    3,
-    7,
-    10,
-    0,
-    1,
-    0,
-    7,
+    Case {
+        block_count: 0,
+        ..RIGHT
+    },
     // no interval
-    10,
-    2,
-    0,
-    2,
-    3,
-    7,
-    10,
-    0,
-    1,
-    0,
-    7,
+    Case {
+        interval_count: 0,
+        ..RIGHT
+    },
     // one block more than tops lent
-    10,
-    3,
-    2,
-    2,
-    3,
-    7,
-    10,
-    0,
-    1,
-    0,
-    7,
+    Case {
+        block_count: 3,
+        ..RIGHT
+    },
     // one interval more than entries lent
-    10,
-    2,
-    3,
-    2,
-    3,
-    7,
-    10,
-    0,
-    1,
-    0,
-    7,
+    Case {
+        interval_count: 3,
+        ..RIGHT
+    },
     // most buckets
-    1_000_000_000,
-    1,
-    1,
-    2,
-    0,
-    1_000_000_000,
-    0,
-    0,
-    0,
-    0,
-    0,
+    Case {
+        buckets: 1_000_000_000,
+        tops: [2, 0],
+        ends: [1_000_000_000, 0],
+        ..FRESH
+    },
     // in one bin, which they overfill
-    1_000_000_000,
-    1,
-    1,
-    1,
-    0,
-    1_000_000_000,
-    0,
-    0,
-    0,
-    0,
-    0,
+    Case {
+        buckets: 1_000_000_000,
+        tops: [1, 0],
+        ends: [1_000_000_000, 0],
+        ..FRESH
+    },
     // most in one bin
-    999_999_992,
-    1,
-    1,
-    1,
-    0,
-    999_999_992,
-    0,
-    0,
-    0,
-    0,
-    0,
+    Case {
+        buckets: 999_999_992,
+        tops: [1, 0],
+        ends: [999_999_992, 0],
+        ..FRESH
+    },
     // one bucket too many
-    1_000_000_001,
-    1,
-    1,
-    1,
-    0,
-    1_000_000_001,
-    0,
-    0,
-    0,
-    0,
-    0,
+    Case {
+        buckets: 1_000_000_001,
+        tops: [1, 0],
+        ends: [1_000_000_001, 0],
+        ..FRESH
+    },
     // 12: equal tops
-    10,
-    2,
-    2,
-    3,
-    3,
-    7,
-    10,
-    0,
-    1,
-    0,
-    7,
+    Case {
+        tops: [3, 3],
+        ..RIGHT
+    },
     // first top 0
-    10,
-    2,
-    2,
-    0,
-    3,
-    7,
-    10,
-    0,
-    1,
-    0,
-    7,
+    Case {
+        tops: [0, 3],
+        ..RIGHT
+    },
     // most bins
-    65_535,
-    1,
-    1,
-    65_535,
-    0,
-    65_535,
-    0,
-    0,
-    0,
-    0,
-    0,
+    Case {
+        buckets: 65_535,
+        tops: [65_535, 0],
+        ends: [65_535, 0],
+        ..FRESH
+    },
     // one bin too many
-    65_536,
-    1,
-    1,
-    65_536,
-    0,
-    65_536,
-    0,
-    0,
-    0,
-    0,
-    0,
+    Case {
+        buckets: 65_536,
+        tops: [65_536, 0],
+        ends: [65_536, 0],
+        ..FRESH
+    },
     // as many bins as buckets
-    3,
-    1,
-    1,
-    3,
-    0,
-    3,
-    0,
-    0,
-    0,
-    0,
-    0,
+    Case {
+        buckets: 3,
+        tops: [3, 0],
+        ends: [3, 0],
+        ..FRESH
+    },
     // more bins than buckets
-    3,
-    1,
-    1,
-    4,
-    0,
-    3,
-    0,
-    0,
-    0,
-    0,
-    0,
+    Case {
+        buckets: 3,
+        tops: [4, 0],
+        ends: [3, 0],
+        ..FRESH
+    },
     // 13: equal ends
-    10,
-    2,
-    2,
-    2,
-    3,
-    10,
-    10,
-    0,
-    1,
-    0,
-    7,
+    Case {
+        ends: [10, 10],
+        ..RIGHT
+    },
     // first end 0
-    10,
-    2,
-    2,
-    2,
-    3,
-    0,
-    10,
-    0,
-    1,
-    0,
-    7,
+    Case {
+        ends: [0, 10],
+        ..RIGHT
+    },
     // last end below B
-    10,
-    2,
-    2,
-    2,
-    3,
-    7,
-    9,
-    0,
-    1,
-    0,
-    7,
+    Case {
+        ends: [7, 9],
+        ..RIGHT
+    },
     // last end above B
-    10,
-    2,
-    2,
-    2,
-    3,
-    7,
-    11,
-    0,
-    1,
-    0,
-    7,
+    Case {
+        ends: [7, 11],
+        ..RIGHT
+    },
     // 14: block 2 of 2
-    10,
-    2,
-    2,
-    2,
-    3,
-    7,
-    10,
-    0,
-    2,
-    0,
-    7,
+    Case {
+        blocks: [0, 2],
+        ..RIGHT
+    },
     // 13 and 14
-    10,
-    2,
-    2,
-    2,
-    3,
-    7,
-    9,
-    0,
-    2,
-    0,
-    7,
+    Case {
+        ends: [7, 9],
+        blocks: [0, 2],
+        ..RIGHT
+    },
     // 15: first block one short
-    10,
-    2,
-    2,
-    2,
-    3,
-    6,
-    10,
-    0,
-    1,
-    0,
-    6,
+    Case {
+        ends: [6, 10],
+        adjustments: [0, 6],
+        ..RIGHT
+    },
     // last block empty
-    10,
-    2,
-    2,
-    2,
-    3,
-    7,
-    10,
-    0,
-    0,
-    0,
-    0,
+    Case {
+        blocks: [0, 0],
+        adjustments: [0, 0],
+        ..RIGHT
+    },
     // 16: one low
-    10,
-    2,
-    2,
-    2,
-    3,
-    7,
-    10,
-    0,
-    1,
-    0,
-    6,
+    Case {
+        adjustments: [0, 6],
+        ..RIGHT
+    },
     // one high
-    10,
-    2,
-    2,
-    2,
-    3,
-    7,
-    10,
-    0,
-    1,
-    0,
-    8,
+    Case {
+        adjustments: [0, 8],
+        ..RIGHT
+    },
     // first not 0
-    10,
-    2,
-    2,
-    2,
-    3,
-    7,
-    10,
-    0,
-    1,
-    1,
-    7,
+    Case {
+        adjustments: [1, 7],
+        ..RIGHT
+    },
 ];
 
 // its place in the list of cases, from 0; refusal, bin, position
 pub fn tables(rt: &impl Print) -> io::Result<()> {
-    let mut i: usize = 0;
-    while i < 27 {
-        tried(rt, i as u32, 11 * i)?;
-        i += 1;
+    for (i, case) in (0..27).zip(&CASES) {
+        let lent = Lent {
+            header: header(case.buckets, case.block_count, case.interval_count),
+            tops: &case.tops,
+            ends: &case.ends,
+            blocks: &case.blocks,
+            adjustments: &case.adjustments,
+        };
+        place(rt, "table", i, lent, 0)?;
     }
-    short(rt, b"one end too few", 1, 2, 2)?;
-    short(rt, b"one block too few", 2, 1, 2)?;
-    short(rt, b"one adjustment too few", 2, 2, 1)
-}
-
-fn case(at: usize) -> u32
-    requires { at < 297 }
-{
-    CASES[at]
-}
-
-fn pair(at: usize) -> [u32; 2]
-    requires { at < 296 }
-{
-    [case(at), case(at + 1)]
-}
-
-fn header(at: usize) -> Header
-    requires { at < 295 }
-{
-    Header {
-        buckets: case(at),
-        capacity: MAX_CAPACITY,
-        block_count: case(at + 1),
-        interval_count: case(at + 2),
-    }
-}
-
-fn tried(rt: &impl Print, i: u32, at: usize) -> io::Result<()>
-    requires { at < 287 }
-{
-    let tops = pair(at + 3);
-    let ends = pair(at + 5);
-    let blocks = pair(at + 7);
-    let adjustments = pair(at + 9);
-    place(
-        rt,
-        b"table",
-        i,
-        header(at),
-        &tops,
-        &ends,
-        &blocks,
-        &adjustments,
-        0,
-    )
+    short(rt, "one end too few", 1, 2, 2)?;
+    short(rt, "one block too few", 2, 1, 2)?;
+    short(rt, "one adjustment too few", 2, 2, 1)
 }
 
 // So many ends, blocks and adjustments of a right table are lent.
 fn short(
     rt: &impl Print,
-    words: &[u8],
+    words: &str,
     ends: usize,
     blocks: usize,
     adjustments: usize,
@@ -402,18 +221,13 @@ fn short(
     requires blocks_bound { blocks ≤ 2 }
     requires adjustments_bound { adjustments ≤ 2 }
 {
-    let tops = [2u32, 3];
-    let all_ends = [7u32, 10];
-    let all_blocks = [0u32, 1];
-    let all_adjustments = [0u32, 7];
-    let reply = irr::place(
-        header(0),
-        &tops,
-        &all_ends[..ends],
-        &all_blocks[..blocks],
-        &all_adjustments[..adjustments],
-        0,
-    );
-    text(rt, words)?;
-    placed(rt, reply)
+    let lent = Lent {
+        header: header(RIGHT.buckets, RIGHT.block_count, RIGHT.interval_count),
+        tops: &RIGHT.tops,
+        ends: &RIGHT.ends[..ends],
+        blocks: &RIGHT.blocks[..blocks],
+        adjustments: &RIGHT.adjustments[..adjustments],
+    };
+    let reply = lent.place(0);
+    line(rt, words, &[reply.refusal, reply.bin, reply.position])
 }

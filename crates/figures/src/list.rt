@@ -1,63 +1,45 @@
 // Lists of buckets on the map of document 01's history after (14, 5): 33, 30, 32 and 6, each at its edge on both sides, and
 // which of them comes first.
-use crate::print::{end, first, number, text};
-use model::limits::MAX_CAPACITY;
-use model::table::Header;
+use crate::calls::{GROWN, Lent, WRONG, header};
+use crate::print::line;
 use std::io;
 
-// B, the capacity and the last adjustment are given; the buckets; refusal; the lent result afterwards.
+// The buckets; refusal; the lent result afterwards.
 fn asked(
     rt: &impl Print,
-    words: &[u8],
-    b: u32,
-    capacity: u32,
-    adjustment: u32,
+    words: &str,
+    lent: Lent<'_>,
     buckets: &[u32],
     res: &mut [u32],
 ) -> io::Result<()> {
-    let reply = irr::places(
-        Header {
-            buckets: b,
-            capacity,
-            block_count: 4,
-            interval_count: 5,
-        },
-        &[2, 3, 4, 5],
-        &[6, 7, 10, 11, 14],
-        &[0, 3, 1, 3, 2],
-        &[0, 6, 7, 9, adjustment],
-        buckets,
-        res,
-    );
-    text(rt, words)?;
-    first(rt, buckets, buckets.len())?;
-    end(rt)?;
-    text(rt, b"  reply")?;
-    number(rt, reply.refusal)?;
-    end(rt)?;
-    text(rt, b"  result")?;
-    first(rt, res, res.len())?;
-    end(rt)
+    let reply = lent.places(buckets, res);
+    line(rt, words, buckets)?;
+    line(rt, "  reply", &[reply.refusal])?;
+    line(rt, "  result", res)
 }
 
 fn places(rt: &impl Print, buckets: &[u32], res: &mut [u32]) -> io::Result<()> {
-    asked(rt, b"(14, 5) places", 14, MAX_CAPACITY, 11, buckets, res)
+    asked(rt, "(14, 5) places", GROWN, buckets, res)
 }
 
 // A table that is refused by 11.
 fn places_0(rt: &impl Print, buckets: &[u32], res: &mut [u32]) -> io::Result<()> {
-    asked(rt, b"B 0, places", 0, MAX_CAPACITY, 11, buckets, res)
+    let lent = Lent {
+        header: header(0, 4, 5),
+        ..GROWN
+    };
+    asked(rt, "B 0, places", lent, buckets, res)
 }
 
 // The largest bin holds 3, and its label has 8 positions.
 fn places_small(
     rt: &impl Print,
-    words: &[u8],
+    words: &str,
     capacity: u32,
     buckets: &[u32],
     res: &mut [u32],
 ) -> io::Result<()> {
-    asked(rt, words, 14, capacity, 11, buckets, res)
+    asked(rt, words, GROWN.with_capacity(capacity), buckets, res)
 }
 
 // Every interval; one bucket twice, and intervals that are skipped.
@@ -88,10 +70,8 @@ fn falls(rt: &impl Print) -> io::Result<()> {
     places(rt, &[3, 6, 13, 12], &mut [9; 8])?;
     asked(
         rt,
-        b"last adjustment 12, places",
-        14,
-        MAX_CAPACITY,
-        12,
+        "last adjustment 12, places",
+        WRONG,
         &[6, 5],
         &mut [9; 4],
     )?;
@@ -101,19 +81,17 @@ fn falls(rt: &impl Print) -> io::Result<()> {
 
 // 30: 33 and 16 come before it, it before 32 and 6.
 fn capacities(rt: &impl Print) -> io::Result<()> {
-    places_small(rt, b"capacity 11, places", 11, &[6, 6], &mut [9; 4])?;
-    places_small(rt, b"capacity 10, places", 10, &[6, 6], &mut [9; 4])?;
-    places_small(rt, b"capacity 10, places", 10, &[6, 5], &mut [9; 4])?;
-    places_small(rt, b"capacity 10, places", 10, &[6, 14], &mut [9; 4])?;
-    places_small(rt, b"capacity 10, places", 10, &[6, 5], &mut [9; 3])?;
-    places_small(rt, b"capacity 8, places", 8, &[6, 6], &mut [9; 4])?;
-    places_small(rt, b"capacity 0, places", 0, &[6, 5], &mut [9; 4])?;
+    places_small(rt, "capacity 11, places", 11, &[6, 6], &mut [9; 4])?;
+    places_small(rt, "capacity 10, places", 10, &[6, 6], &mut [9; 4])?;
+    places_small(rt, "capacity 10, places", 10, &[6, 5], &mut [9; 4])?;
+    places_small(rt, "capacity 10, places", 10, &[6, 14], &mut [9; 4])?;
+    places_small(rt, "capacity 10, places", 10, &[6, 5], &mut [9; 3])?;
+    places_small(rt, "capacity 8, places", 8, &[6, 6], &mut [9; 4])?;
+    places_small(rt, "capacity 0, places", 0, &[6, 5], &mut [9; 4])?;
     asked(
         rt,
-        b"capacity 10, last adjustment 12, places",
-        14,
-        10,
-        12,
+        "capacity 10, last adjustment 12, places",
+        WRONG.with_capacity(10),
         &[6, 5],
         &mut [9; 4],
     )

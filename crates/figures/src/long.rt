@@ -1,79 +1,76 @@
 // Tables of the most blocks and intervals, and of one more: rule 11. Growths of that of the most blocks: 31 comes after 5.
-ghost use Rattle.std.specs.Prelude.{◌≤◌, ◌≡◌, length};
+ghost use Rattle.std.specs.Prelude.{◌≤◌};
 
-use crate::print::{end, number, text};
+use crate::calls::{Lent, header};
+use crate::print::line;
 use crate::read::place;
-use model::limits::MAX_CAPACITY;
-use model::table::Header;
+use model::limits::{BLOCKS, INTERVALS};
 use std::io;
 
+// One entry more than the most intervals.
+const LONG: usize = INTERVALS + 1;
+
 // first, first + 1, .. in every entry, first being 0 or 1
-fn rising(first: u32) -> [u32; 2082]
+fn rising(first: u32) -> [u32; LONG]
     requires { first ≤ 1 }
-    ensures { 2082 ≡ length result }
 {
-    let mut xs = [0u32; 2082];
-    let mut x = first;
-    let mut i: usize = 0;
-    while i < 2082 {
-        xs[i] = x;
-        x += 1;
-        i += 1;
+    let mut xs = [0u32; LONG];
+    for (entry, x) in xs.iter_mut().zip(first..first + 2_082) {
+        *entry = x;
     }
     xs
 }
 
 // Each block has one interval of one bucket.
 fn blocks(rt: &impl Print, count: u32) -> io::Result<()> {
-    let h = Header {
-        buckets: count,
-        capacity: MAX_CAPACITY,
-        block_count: count,
-        interval_count: count,
-    };
     let tops = rising(1);
-    let up = &tops[..];
     let blocks = rising(0);
-    let from_zero = &blocks[..];
-    place(rt, b"blocks", count, h, up, up, from_zero, from_zero, 0)
+    let lent = Lent {
+        header: header(count, count, count),
+        tops: &tops,
+        ends: &tops,
+        blocks: &blocks,
+        adjustments: &blocks,
+    };
+    place(rt, "blocks", count, lent, 0)
 }
 
 // One block has all intervals, of one bucket each.
 fn intervals(rt: &impl Print, count: u32) -> io::Result<()> {
-    let h = Header {
-        buckets: count,
-        capacity: MAX_CAPACITY,
-        block_count: 1,
-        interval_count: count,
-    };
     let ends = rising(1);
-    let none = [0u32; 2082];
-    let zeros = &none[..];
-    place(rt, b"intervals", count, h, &[1], &ends, zeros, zeros, 0)
+    let zeros = [0u32; LONG];
+    let lent = Lent {
+        header: header(count, 1, count),
+        tops: &[1],
+        ends: &ends,
+        blocks: &zeros,
+        adjustments: &zeros,
+    };
+    place(rt, "intervals", count, lent, 0)
 }
 
 // A growth of 65 blocks of one bin with one bucket each: capacity, sizes; the refusals of the growth and of its move list
 fn grown(rt: &impl Print, capacity: u32, buckets: u32, bins: u32) -> io::Result<()> {
-    let h = Header {
-        buckets: 65,
-        capacity,
-        block_count: 65,
-        interval_count: 65,
-    };
     let tops = rising(1);
-    let up = &tops[..];
     let blocks = rising(0);
-    let from_zero = &blocks[..];
-    let mut new_tops = [7u32; 65];
-    let mut ends = [7u32; 2081];
-    let mut new_blocks = [7u32; 2081];
-    let mut adjustments = [7u32; 2081];
+    let lent = Lent {
+        header: header(65, 65, 65),
+        tops: &tops,
+        ends: &tops,
+        blocks: &blocks,
+        adjustments: &blocks,
+    };
+    let lent = lent.with_capacity(capacity);
+    let mut new_tops = [7u32; BLOCKS];
+    let mut ends = [7u32; INTERVALS];
+    let mut new_blocks = [7u32; INTERVALS];
+    let mut adjustments = [7u32; INTERVALS];
     let reply = irr::expand(
-        h,
-        up,
-        up,
-        from_zero,
-        from_zero,
+        lent.header,
+        lent.tops,
+        lent.ends,
+        lent.blocks,
+        lent.adjustments,
         buckets,
         bins,
         &mut new_tops,
@@ -81,15 +78,9 @@ fn grown(rt: &impl Print, capacity: u32, buckets: u32, bins: u32) -> io::Result<
         &mut new_blocks,
         &mut adjustments,
     );
-    let mut rows = [7u32; 5];
-    let listed = irr::relocations(h, up, up, from_zero, from_zero, buckets, bins, 0, &mut rows);
-    text(rt, b"65 blocks grown")?;
-    number(rt, capacity)?;
-    number(rt, buckets)?;
-    number(rt, bins)?;
-    number(rt, reply.refusal)?;
-    number(rt, listed.refusal)?;
-    end(rt)
+    let listed = lent.relocations(buckets, bins, 0, &mut [7; 5]);
+    let numbers = [capacity, buckets, bins, reply.refusal, listed.refusal];
+    line(rt, "65 blocks grown", &numbers)
 }
 
 pub fn growths(rt: &impl Print) -> io::Result<()> {

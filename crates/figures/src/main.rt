@@ -2,6 +2,7 @@
 // sides, through the public calls, and prints what it saw: a line a call, its arguments and then its whole reply.
 #![tactic(auto)]
 
+mod calls;
 mod fresh_maps;
 mod lent;
 mod list;

@@ -15,8 +15,11 @@ use Rattle.model.specs.Sound.{Formed}
 use Rattle.model.specs.Lent.{TopsFormed}
 use Rattle.model.specs.Saved.{loaded_header, read_arrays, loaded_arrays, file_wrong}
 use Rattle.model.specs.Calls.{arrays_after, load_tests}
+use Rattle.model.specs.Results.{number}
+use Rattle.model.specs.declared.refusal.Refusal.{Refusal}
 use Rattle.model.specs.declared.table.Header.{Header}
-use Rattle.model.proofs.Refusals.{first_clear, first_skip, first_here, first_none, first_found, first_after, accepted, refused}
+use Rattle.model.proofs.Refusals.{first_clear, first_skip, first_here, first_none, first_after, accepted, refused}
+use Rattle.model.proofs.Results.{number_some, refused_first}
 use Rattle.model.proofs.Soundness.{passes_formed}
 use Rattle.model.proofs.Files.{file_passes}
 use Rattle.model.proofs.Tables.{length_from, length_over, taken}
@@ -118,13 +121,13 @@ filled xs old new e l =
 -- one of them is broken
 pub loaded_refused
     : (f : List ℕ) (h : Header) (out : Arrays) → Opened f h out
-    → (own own' : List ℕ) (r : ℕ) → Completed h (file_arrays f h) own r own' → (old : Arrays) → (r ≡ 0 → ⊥)
-    → Loaded f h.capacity old r old
+    → (own own' : List ℕ) (r : Refusal) → Completed h (file_arrays f h) own (number r) own' → (old : Arrays)
+    → Loaded f h.capacity old (number r) old
 unfolding loaded_over arrays_after
-loaded_refused f h out o own own' r c old n =
-    let said : r ≡ first (load_tests f h.capacity) =
-    c.answer ∙ sym (later f h.capacity h o.says o.passes ∙ first_found _ _ (λ z. n (c.answer ∙ z))) in
-    record { refusal = said; lent = sym (refused (first (load_tests f h.capacity)) _ _ (λ z. n (said ∙ z))) }
+loaded_refused f h out o own own' r c old =
+    let said : number r ≡ first (load_tests f h.capacity) =
+    refused_first r _ _ c.answer ∙ sym (later f h.capacity h o.says o.passes) in
+    record { refusal = said; lent = sym (refused (first (load_tests f h.capacity)) _ _ (λ z. number_some r (said ∙ z))) }
 
 -- none is: the file is judged
 pub completed_judged

@@ -1,6 +1,6 @@
 -- What a file that passes or breaks rule 11 is answered. Assumes nothing.
 use Prim.Native.Nat.{ℕ}
-use mathlib.Core.Path.{◌≡◌, sym, ◌∙◌, ap, ap₂, subst}
+use mathlib.Core.Path.{◌≡◌, refl, sym, ◌∙◌, ap, ap₂, subst}
 use mathlib.Core.Bool.{true, false}
 use mathlib.Core.List.{List}
 use native.Mathlib.Omega.{arith}
@@ -9,9 +9,11 @@ use Rattle.model.specs.Table.{Arrays}
 use Rattle.model.specs.Refusal.{first, room_short}
 use Rattle.model.specs.Saved.{saved_length, loaded_header, file_wrong}
 use Rattle.model.specs.Calls.{no_header, arrays_after, load_answer, load_tests}
+use Rattle.model.specs.Results.{number}
+use Rattle.model.specs.declared.refusal.Refusal.{Refusal}
 use Rattle.model.specs.declared.table.Header.{Header}
-use Rattle.model.specs.declared.reply.LoadReply.{LoadReply}
-use Rattle.model.proofs.Refusals.{or_left, or_right, first_here, refused}
+use Rattle.model.proofs.Refusals.{or_left, or_right, first_here, accepted, refused}
+use Rattle.model.proofs.Results.{number_some}
 use Rattle.model.proofs.Rules.{blocks_inside, intervals_inside}
 use Rattle.soundness.specs.Passed.{alone}
 use Rattle.file_rules.specs.Judging.{Counted}
@@ -50,12 +52,23 @@ file_capacity : (f : List ℕ) (p : ℕ) (h : Header) → h ≡ loaded_header f 
 unfolding loaded_header
 file_capacity f p h e = ap (λ (g : Header). g.capacity) e
 
-pub loaded_replied
-    : (f : List ℕ) (p : ℕ) (h : Header) (old left : Arrays) (r : ℕ) (z : LoadReply)
-    → h ≡ loaded_header f p → Loaded f h.capacity old r left → z ≡ load_answer r h
-    → (z ≡ load_answer (first (load_tests f p)) (loaded_header f p)) × (left ≡ loaded_over f p old)
-loaded_replied f p h old left r z e l d =
-    let k = subst (λ q. Loaded f q old r left) (file_capacity f p h e) l in (d ∙ ap₂ load_answer k.refusal e, k.lent)
+-- rule 11 passed, what the rules after it answer: a refusal, or none
+module _ (f : List ℕ) (p : ℕ) (h : Header) (old left : Arrays) (e : h ≡ loaded_header f p) where
+  pub loaded_refused
+      : (r : Refusal) → Loaded f h.capacity old (number r) left
+      → (record { refusal = number r; header = no_header } ≡ load_answer (first (load_tests f p)) (loaded_header f p))
+      × (left ≡ loaded_over f p old)
+  loaded_refused r l =
+      let k = subst (λ q. Loaded f q old (number r) left) (file_capacity f p h e) l in
+      (sym (refused (number r) _ _ (number_some r)) ∙ ap₂ load_answer k.refusal e, k.lent)
+
+  pub loaded_accepted
+      : Loaded f h.capacity old 0 left
+      → (record { refusal = 0; header = h } ≡ load_answer (first (load_tests f p)) (loaded_header f p))
+      × (left ≡ loaded_over f p old)
+  loaded_accepted l =
+      let k = subst (λ q. Loaded f q old 0 left) (file_capacity f p h e) l in
+      (sym (accepted 0 _ _ refl) ∙ ap₂ load_answer k.refusal e, k.lent)
 
 -- a file that passes 11, with arrays that have room
 pub opened

@@ -1,20 +1,22 @@
-// Loading a file: rule 11, and then by an array of its size for its adjustments. `h` is the header that the file says, with the
-// capacity given.
+// Loading a file: rule 11, and then by an array of its size for its adjustments.
 #![tactic(auto)]
 
 ghost use Rattle.std.specs.Prelude.{◌≡◌, false, ◌≤◌};
 ghost use Rattle.model.specs.Refusal.{room_short, first};
 ghost use Rattle.model.specs.Saved.{loaded_header};
 ghost use Rattle.model.specs.Calls.{load_answer, load_tests};
+ghost use Rattle.model.specs.Limits.{max_intervals};
 ghost use Rattle.model.specs.Table.{arrays};
+ghost use Rattle.model.specs.Results.{refusal_of, load_told};
 ghost use Rattle.file_read.specs.Opening.{Opened};
 ghost use Rattle.file_judged.specs.Loading.{loaded_over, Loaded};
 
 use file_judged::{load_alone, load_by};
 use file_number::header_of;
 use file_read::file_wrong;
+use file_rules::File;
 use model::limits::INTERVALS;
-use model::reply::LoadReply;
+use model::refusal::Refusal;
 use model::table::Header;
 
 // The intervals of a file that a small array does for, and a middle one: an array of one's own is cleared.
@@ -22,97 +24,70 @@ const FEW: usize = 128;
 
 const SOME: usize = 512;
 
-// A file of few intervals.
-fn load_few(
-    f: &[u8],
-    h: Header,
+// A file of at most N intervals.
+fn load_within<const N: usize>(
+    file: File,
     tops: &mut [u32],
     ends: &mut [u32],
     blocks: &mut [u32],
     adjustments: &mut [u32],
-) -> u32
-    requires opened { Opened f.now h (arrays tops.old ends.old blocks.old adjustments.old) }
-    requires interval_count_bound { h.interval_count ≤ 128 }
-    ensures { Loaded f.now h.capacity (arrays tops.old ends.old blocks.old adjustments.old) result (arrays tops.new ends.new blocks.new adjustments.new) }
+) -> Result<(), Refusal>
+    requires opened { Opened file.bytes.now file.header (arrays tops.old ends.old blocks.old adjustments.old) }
+    requires interval_count_bound { (file.header.interval_count ≤ N) × (N ≤ max_intervals) }
+    ensures { Loaded file.entry.bytes.now file.entry.header.capacity (arrays tops.old ends.old blocks.old adjustments.old) (refusal_of result) (arrays tops.new ends.new blocks.new adjustments.new) }
 {
-    let mut own = [0u32; FEW];
-    load_by(f, h, &mut own, tops, ends, blocks, adjustments)
-}
-
-// A file of some more.
-fn load_some(
-    f: &[u8],
-    h: Header,
-    tops: &mut [u32],
-    ends: &mut [u32],
-    blocks: &mut [u32],
-    adjustments: &mut [u32],
-) -> u32
-    requires opened { Opened f.now h (arrays tops.old ends.old blocks.old adjustments.old) }
-    requires interval_count_bound { h.interval_count ≤ 512 }
-    ensures { Loaded f.now h.capacity (arrays tops.old ends.old blocks.old adjustments.old) result (arrays tops.new ends.new blocks.new adjustments.new) }
-{
-    let mut own = [0u32; SOME];
-    load_by(f, h, &mut own, tops, ends, blocks, adjustments)
-}
-
-// A file of any number of intervals.
-fn load_many(
-    f: &[u8],
-    h: Header,
-    tops: &mut [u32],
-    ends: &mut [u32],
-    blocks: &mut [u32],
-    adjustments: &mut [u32],
-) -> u32
-    requires { Opened f.now h (arrays tops.old ends.old blocks.old adjustments.old) }
-    ensures { Loaded f.now h.capacity (arrays tops.old ends.old blocks.old adjustments.old) result (arrays tops.new ends.new blocks.new adjustments.new) }
-{
-    let mut own = [0u32; INTERVALS];
-    load_by(f, h, &mut own, tops, ends, blocks, adjustments)
+    let mut own = [0u32; N];
+    load_by(file, &mut own, tops, ends, blocks, adjustments)
 }
 
 // A file by an array of its size.
 fn load_sized(
-    f: &[u8],
-    h: Header,
+    file: File,
     tops: &mut [u32],
     ends: &mut [u32],
     blocks: &mut [u32],
     adjustments: &mut [u32],
-) -> u32
-    requires { Opened f.now h (arrays tops.old ends.old blocks.old adjustments.old) }
-    ensures { Loaded f.now h.capacity (arrays tops.old ends.old blocks.old adjustments.old) result (arrays tops.new ends.new blocks.new adjustments.new) }
+) -> Result<(), Refusal>
+    requires { Opened file.bytes.now file.header (arrays tops.old ends.old blocks.old adjustments.old) }
+    ensures { Loaded file.entry.bytes.now file.entry.header.capacity (arrays tops.old ends.old blocks.old adjustments.old) (refusal_of result) (arrays tops.new ends.new blocks.new adjustments.new) }
 {
-    let intervals = h.interval_count as usize;
+    let intervals = file.header.interval_count as usize;
     if SOME < intervals {
-        return load_many(f, h, tops, ends, blocks, adjustments);
+        return load_within::<INTERVALS>(file, tops, ends, blocks, adjustments);
     }
     if FEW < intervals {
-        return load_some(f, h, tops, ends, blocks, adjustments);
+        return load_within::<SOME>(file, tops, ends, blocks, adjustments);
     }
-    load_few(f, h, tops, ends, blocks, adjustments)
+    load_within::<FEW>(file, tops, ends, blocks, adjustments)
 }
 
-// The reply of a load: its header where it is accepted.
-fn reply(refusal: u32, h: Header) -> LoadReply
-    ensures { result ≡ load_answer refusal h }
+// A file that passes 11: one of one block and one interval is loaded by a function of its own.
+fn load_opened(
+    file: File,
+    tops: &mut [u32],
+    ends: &mut [u32],
+    blocks: &mut [u32],
+    adjustments: &mut [u32],
+) -> Result<(), Refusal>
+    requires { Opened file.bytes.now file.header (arrays tops.old ends.old blocks.old adjustments.old) }
+    ensures { Loaded file.entry.bytes.now file.entry.header.capacity (arrays tops.old ends.old blocks.old adjustments.old) (refusal_of result) (arrays tops.new ends.new blocks.new adjustments.new) }
 {
-    if refusal == 0 {
-        return LoadReply { refusal, header: h };
+    let h = file.header;
+    if h.interval_count == 1 && h.block_count == 1 {
+        return load_alone(
+            file.bytes,
+            h.buckets,
+            h.capacity,
+            tops,
+            ends,
+            blocks,
+            adjustments,
+        );
     }
-    LoadReply {
-        refusal,
-        header: Header {
-            buckets: 0,
-            capacity: 0,
-            block_count: 0,
-            interval_count: 0,
-        },
-    }
+    load_sized(file, tops, ends, blocks, adjustments)
 }
 
-// Loads a file into arrays with room for any table.
+// Loads a file into arrays with room for any table: its header, with the capacity given.
 pub fn loaded(
     f: &[u8],
     capacity: u32,
@@ -120,29 +95,15 @@ pub fn loaded(
     ends: &mut [u32],
     blocks: &mut [u32],
     adjustments: &mut [u32],
-) -> LoadReply
+) -> Result<Header, Refusal>
     requires { room_short (arrays tops.old ends.old blocks.old adjustments.old) ≡ false }
-    ensures value { result ≡ load_answer (first (load_tests f.now capacity)) (loaded_header f.now capacity) }
+    ensures value { load_told result ≡ load_answer (first (load_tests f.now capacity)) (loaded_header f.now capacity) }
     ensures arrays_left { arrays tops.new ends.new blocks.new adjustments.new ≡ loaded_over f.now capacity (arrays tops.old ends.old blocks.old adjustments.old) }
 {
     if file_wrong(f, capacity) {
-        return LoadReply {
-            refusal: 11,
-            header: Header {
-                buckets: 0,
-                capacity: 0,
-                block_count: 0,
-                interval_count: 0,
-            },
-        };
+        return Err(Refusal::HeaderWrong);
     }
-    let h = header_of(f, capacity);
-    if h.interval_count == 1 {
-        if h.block_count == 1 {
-            let refusal = load_alone(f, h.buckets, h.capacity, tops, ends, blocks, adjustments);
-            return reply(refusal, h);
-        }
-    }
-    let refusal = load_sized(f, h, tops, ends, blocks, adjustments);
-    reply(refusal, h)
+    let header = header_of(f, capacity);
+    load_opened(File { bytes: f, header }, tops, ends, blocks, adjustments)?;
+    Ok(header)
 }

@@ -12,10 +12,7 @@ pub fn put_number(out: &mut [u8], at: usize, x: u32)
     requires { at + 4 ≤ length out.old }
     ensures { out.new ≡ sets out.old at (bytes_of x) }
 {
-    out[at] = (x % 256) as u8;
-    out[at + 1] = (x / 256 % 256) as u8;
-    out[at + 2] = (x / 65_536 % 256) as u8;
-    out[at + 3] = (x / 16_777_216 % 256) as u8;
+    out[at..at + 4].copy_from_slice(&x.to_le_bytes());
 }
 
 // Number i of a file.
@@ -24,11 +21,7 @@ pub fn number_at(f: &[u8], i: usize) -> u32
     ensures { result ≡ number f.now i }
 {
     let at = 4 * i;
-    let a = f[at] as u32;
-    let b = f[at + 1] as u32;
-    let c = f[at + 2] as u32;
-    let d = f[at + 3] as u32;
-    a + 256 * b + 65_536 * c + 16_777_216 * d
+    u32::from_le_bytes([f[at], f[at + 1], f[at + 2], f[at + 3]])
 }
 
 // The header that a file says, with the capacity given: its first three numbers are B, G and k.

@@ -6,12 +6,12 @@ ghost use Rattle.model.specs.Basics.{from};
 ghost use Rattle.model.specs.Limits.{max_intervals};
 ghost use Rattle.model.specs.Table.{over, arrays};
 ghost use Rattle.model.specs.Saved.{number, file_wrong};
-ghost use Rattle.file_rules.specs.Judging.{file_arrays, Counted};
+ghost use Rattle.file_rules.specs.Judging.{file_arrays};
 ghost use Rattle.file_read.specs.Opening.{Opened, out_over};
 
 use file_number::{header_of, number_at};
+use file_rules::File;
 use model::limits::INTERVALS;
-use model::table::Header;
 use soundness::header_outside;
 use table::copy;
 
@@ -34,34 +34,35 @@ pub fn read_numbers(f: &[u8], first: usize, count: usize, out: &mut [u32])
     requires { (4 * (first + count) ≤ length f.now) × (count ≤ length out.old) }
     ensures { out.new ≡ over (from (number f.now) first count) out.old }
 {
-    let mut i: usize = 0;
-    while i < count {
+    for i in 0..count {
         out[i] = number_at(f, first + i);
-        i += 1;
     }
 }
 
 // The same over lent entries: by way of a local array, which overlaps neither, so that the compiler moves them as a block and
-// drops the local array.
+// drops the local array. It keeps that array where the library's copy is called in place of the loop.
 fn copy_numbers(f: &[u8], first: usize, count: usize, out: &mut [u32])
     requires { (4 * (first + count) ≤ length f.now) × (count ≤ length out.old) × (count ≤ max_intervals) }
     ensures { out.new ≡ over (from (number f.now) first count) out.old }
 {
     let mut own = [0u32; INTERVALS];
     read_numbers(f, first, count, &mut own);
-    copy(&own, count, out);
+    for i in 0..count {
+        out[i] = own[i];
+    }
 }
 
 // Decodes a file's tops, ends and blocks over the first entries of arrays.
-pub fn decode(f: &[u8], h: Header, tops: &mut [u32], ends: &mut [u32], blocks: &mut [u32])
-    requires { (Counted f.now h) × (h.block_count ≤ length tops.old) × (h.interval_count ≤ length ends.old) ×
-        (h.interval_count ≤ length blocks.old) }
-    ensures tops { tops.new ≡ over (file_arrays f.now h).tops tops.old }
-    ensures ends { ends.new ≡ over (file_arrays f.now h).ends ends.old }
-    ensures blocks { blocks.new ≡ over (file_arrays f.now h).blocks blocks.old }
+pub fn decode(file: File, tops: &mut [u32], ends: &mut [u32], blocks: &mut [u32])
+    requires { (file.header.block_count ≤ length tops.old) × (file.header.interval_count ≤ length ends.old) ×
+        (file.header.interval_count ≤ length blocks.old) }
+    ensures tops { tops.new ≡ over (file_arrays file.entry.bytes.now file.entry.header).tops tops.old }
+    ensures ends { ends.new ≡ over (file_arrays file.entry.bytes.now file.entry.header).ends ends.old }
+    ensures blocks { blocks.new ≡ over (file_arrays file.entry.bytes.now file.entry.header).blocks blocks.old }
 {
-    let block_count = h.block_count as usize;
-    let interval_count = h.interval_count as usize;
+    let f = file.bytes;
+    let block_count = file.header.block_count as usize;
+    let interval_count = file.header.interval_count as usize;
     read_numbers(f, 3, block_count, tops);
     read_numbers(f, 3 + block_count, interval_count, ends);
     read_numbers(f, 3 + block_count + interval_count, interval_count, blocks);
@@ -69,20 +70,20 @@ pub fn decode(f: &[u8], h: Header, tops: &mut [u32], ends: &mut [u32], blocks: &
 
 // Writes a file's table over the first entries of arrays with room for any table, with adjustments of one's own.
 pub fn write_out(
-    f: &[u8],
-    h: Header,
+    file: File,
     own: &[u32],
     tops: &mut [u32],
     ends: &mut [u32],
     blocks: &mut [u32],
     adjustments: &mut [u32],
 )
-    requires opened { Opened f.now h (arrays tops.old ends.old blocks.old adjustments.old) }
-    requires interval_count_in_bounds { h.interval_count ≤ length own.now }
-    ensures { arrays tops.new ends.new blocks.new adjustments.new ≡ out_over f.now h own.now (arrays tops.old ends.old blocks.old adjustments.old) }
+    requires opened { Opened file.bytes.now file.header (arrays tops.old ends.old blocks.old adjustments.old) }
+    requires interval_count_in_bounds { file.header.interval_count ≤ length own.now }
+    ensures { arrays tops.new ends.new blocks.new adjustments.new ≡ out_over file.entry.bytes.now file.entry.header own.now (arrays tops.old ends.old blocks.old adjustments.old) }
 {
-    let block_count = h.block_count as usize;
-    let interval_count = h.interval_count as usize;
+    let f = file.bytes;
+    let block_count = file.header.block_count as usize;
+    let interval_count = file.header.interval_count as usize;
     copy_numbers(f, 3, block_count, tops);
     copy_numbers(f, 3 + block_count, interval_count, ends);
     copy_numbers(f, 3 + block_count + interval_count, interval_count, blocks);

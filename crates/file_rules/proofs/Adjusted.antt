@@ -1,6 +1,6 @@
 -- One turn of working out a table's adjustments, from what rules 11 to 14 show of it. Assumes nothing.
 use Prim.Native.Nat.{ℕ, ◌+◌, ◌-◌, ◌≤◌, ◌<◌}
-use mathlib.Core.Path.{◌≡◌, sym, ◌∙◌, ap}
+use mathlib.Core.Path.{◌≡◌, refl, sym, ◌∙◌, ap}
 use mathlib.Core.List.{List, []}
 use native.Mathlib.Decide.{ℕ_discrete}
 use native.Mathlib.Nat.{zero-add}
@@ -89,3 +89,55 @@ second_adjustment sums b b' start d a o l one two r m w =
           let kept = get_or-set_other sums b b' (d - a) 0 (λ z. n (sym z)) in
           (omega (arith, own, kept), omega (arith, own, kept))
     ]
+
+-- two intervals met in one turn, of blocks b and b', which end at d and d': `o` is what the second is adjusted from by what its
+-- block holds before the first
+module _
+    (h : Header) (tops ends blocks : List ℕ) (p : IntervalsRight h ends blocks) (i start : ℕ) (sums old out : List ℕ)
+    (s : Adjusted h tops ends blocks i start sums old out) (b b' d d' o : ℕ)
+    (block : b ≡ get_or blocks i 0) (block' : b' ≡ get_or blocks (i + 1) 0)
+    (end : d ≡ get_or ends i 0) (end' : d' ≡ get_or ends (i + 1) 0)
+    (l : i + 1 < h.interval_count) (one : b ≡ b' → o ≡ start) (two : (b ≡ b' → ⊥) → o ≡ d)
+  where
+    abbrev first : ℕ
+    first = start - get_or sums b 0
+
+    abbrev next : ℕ
+    next = o - get_or sums b' 0
+
+    abbrev then : List ℕ
+    then = set sums b (d - first)
+
+    begun : Turn start b d sums
+    begun = adjusted_turn h tops ends blocks p i start sums old out s b d block end (omega arith)
+
+    halfway : Adjusted h tops ends blocks (i + 1) d then old (set out i first)
+    halfway =
+        let t = begun in
+        adjusted_next h tops ends blocks p i start sums old out s b d block end (omega arith) first (d - first) then refl
+        (omega arith) (omega arith)
+
+    second : Turn d b' d' then
+    second =
+        adjusted_turn h tops ends blocks p (i + 1) d then old (set out i first) halfway b' d' block' end' l
+
+    adjustments : (get_or sums b' 0 ≤ o) × (next + get_or then b' 0 ≡ d)
+    adjustments =
+        let t = begun in
+        second_adjustment sums b b' start d first o (omega (arith, s.held.cells)) one two (omega arith) t.later second.within
+
+    -- nothing falls below 0
+    pub pair_fits : (get_or sums b 0 ≤ start) × (first ≤ d) × (get_or sums b' 0 ≤ o) × (next ≤ d')
+    pair_fits =
+        let t = begun in
+        let u = second in
+        let a = adjustments in
+        (t.within, omega arith, a.0, omega (arith, a.1))
+
+    pub adjusted_pair
+        : Adjusted h tops ends blocks (i + 1 + 1) d' (set then b' (d' - next)) old (set (set out i first) (i + 1) next)
+    adjusted_pair =
+        let u = second in
+        let a = adjustments in
+        adjusted_next h tops ends blocks p (i + 1) d then old (set out i first) halfway b' d' block' end' l next (d' - next)
+        (set then b' (d' - next)) refl a.1 (omega (arith, a.1))

@@ -1,33 +1,30 @@
 -- Laws of what a fresh map with room is answered. Assumes nothing.
 use Prim.Native.Nat.{ℕ}
-use mathlib.Core.Path.{◌≡◌, sym, ◌∙◌, ap}
-use mathlib.Core.Bool.{Bool, true, false}
+use mathlib.Core.Path.{◌≡◌, sym, ◌∙◌}
+use mathlib.Core.Bool.{true, false}
 use mathlib.Core.List.{[], ◌∷◌}
 use native.Mathlib.Omega.{arith}
 use Rattle.model.specs.Limits.{max_capacity}
 use Rattle.model.specs.Table.{Shape, Arrays, header, written}
-use Rattle.model.specs.Refusal.{first, overfills, outside, capacity_outside}
+use Rattle.model.specs.Refusal.{first, outside, overfills, capacity_outside}
 use Rattle.model.specs.Initial.{initial}
 use Rattle.model.specs.Calls.{no_header, size_tests, fresh_tests, table_reply, arrays_after}
-use Rattle.model.specs.declared.reply.TableReply.{TableReply}
-use Rattle.model.proofs.Refusals.{first_here, first_skip, first_found, first_after, accepted, refused}
+use Rattle.model.proofs.Refusals.{first_here, first_skip, first_after, accepted, refused}
+use Rattle.model.specs.Results.{number}
+use Rattle.model.specs.declared.refusal.Refusal.{Refusal}
+use Rattle.model.proofs.Results.{refused_first}
 use Rattle.fresh.specs.Fresh.{fresh_refusal}
 
--- a reply that refuses by n, where n is k
-pub refused_by_lem
-    : (n k : ℕ) (z : TableReply) → z ≡ record { refusal = n; moved = 0; header = no_header } → n ≡ k
-    → z ≡ record { refusal = k; moved = 0; header = no_header }
-refused_by_lem n k z e same = e ∙ ap (λ r. record { refusal = r; moved = 0; header = no_header }) same
-
--- the sizes asked for are refused by rules 1 and 2, or by 31 after them
-pub fresh_sizes : (s : Shape) (p r : ℕ) → r ≡ first (size_tests s) → (r ≡ 0 → ⊥) → r ≡ first (fresh_tests s p)
-unfolding fresh_tests
-fresh_sizes s p r e n = e ∙ sym (first_found (size_tests s) _ (λ z. n (e ∙ z)))
-
-pub fresh_overfull
-    : (s : Shape) (p : ℕ) → first (size_tests s) ≡ 0 → (w : Bool) → w ≡ overfills p s → first ((31, w) ∷ []) ≡ first (fresh_tests s p)
+-- rules 1 and 2 have passed: 31 is the last test
+pub fresh_last
+    : (s : Shape) (p r : ℕ) → first (size_tests s) ≡ 0 → r ≡ first ((31, overfills p s) ∷ []) → r ≡ first (fresh_tests s p)
 unfolding fresh_tests size_tests
-fresh_overfull s p z w e = ap (λ b. first ((31, b) ∷ [])) e ∙ sym (first_after (size_tests s) _ (omega arith) z)
+fresh_last s p r z e = e ∙ sym (first_after (size_tests s) _ (omega arith) z)
+
+-- and before that
+pub fresh_sizes : (s : Shape) (p : ℕ) (r : Refusal) → number r ≡ first (size_tests s) → number r ≡ first (fresh_tests s p)
+unfolding fresh_tests
+fresh_sizes s p r e = refused_first r (size_tests s) _ e
 
 module _ (s : Shape) (p : ℕ) where
   -- a fresh map is refused by its capacity, or by the sizes asked for

@@ -6,12 +6,14 @@ ghost use Rattle.model.specs.Table.{sizes, arrays};
 ghost use Rattle.model.specs.Refusal.{room_short};
 ghost use Rattle.model.specs.Initial.{initial};
 ghost use Rattle.model.specs.Calls.{table_reply, arrays_after};
+ghost use Rattle.model.specs.Results.{table_told};
 ghost use Rattle.fresh.specs.Fresh.{fresh_refusal};
 
+use model::given::Grown;
 use model::limits::MAX_CAPACITY;
-use model::reply::TableReply;
+use model::refusal::Refusal;
 use model::table::Header;
-use sizes::{is_outside, overfull, refused_table, size_refusal, write_initial};
+use sizes::{is_outside, overfull, sizes_allowed, write_initial};
 
 // The capacity's range, the sizes, the first bin's due; then the table of `buckets` in `bins`.
 pub fn mapped(
@@ -22,25 +24,21 @@ pub fn mapped(
     ends: &mut [u32],
     blocks: &mut [u32],
     adjustments: &mut [u32],
-) -> TableReply
+) -> Result<Grown, Refusal>
     requires { room_short (arrays tops.old ends.old blocks.old adjustments.old) ≡ false }
-    ensures value { result ≡ table_reply (fresh_refusal (sizes buckets bins) capacity) 0 (initial (sizes buckets bins) capacity) }
+    ensures value { table_told result ≡ table_reply (fresh_refusal (sizes buckets bins) capacity) 0 (initial (sizes buckets bins) capacity) }
     ensures arrays_left { arrays tops.new ends.new blocks.new adjustments.new ≡ arrays_after (fresh_refusal (sizes buckets bins) capacity) (initial (sizes buckets bins) capacity)
         (arrays tops.old ends.old blocks.old adjustments.old) }
 {
     if is_outside(MAX_CAPACITY, capacity) {
-        return refused_table(30);
+        return Err(Refusal::CapacityWrong);
     }
-    let wrong = size_refusal(buckets, bins);
-    if wrong != 0 {
-        return refused_table(wrong);
-    }
+    sizes_allowed(buckets, bins)?;
     if overfull(capacity, buckets, bins) {
-        return refused_table(31);
+        return Err(Refusal::Overfills);
     }
     write_initial(buckets, bins, tops, ends, blocks, adjustments);
-    TableReply {
-        refusal: 0,
+    Ok(Grown {
         moved: 0,
         header: Header {
             buckets,
@@ -48,5 +46,5 @@ pub fn mapped(
             block_count: 1,
             interval_count: 1,
         },
-    }
+    })
 }

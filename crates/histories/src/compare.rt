@@ -1,274 +1,138 @@
 // What the calls say of a map, against the directory.
-ghost use Rattle.std.specs.Prelude.{◌<◌, ◌≤◌};
+use crate::calls::Lent;
+use crate::counts::Counts;
+use crate::history::Map;
+use crate::refusal::Refusal;
+use crate::size::Sizes;
+use model::limits::LABEL;
+use model::reply::{FindReply, PlaceReply, RelocationsReply};
 
-use crate::directory::{BIN, Directory, LABEL, POSITION, SIZE, get};
-use crate::state::{State, same};
-use crate::total::{NONE, entry, least, minus, plus, quotient, remainder};
-use crate::{directory, file, list, rack_sheet};
-use model::table::Header;
+// What a lent array has where no call writes.
+pub const UNWRITTEN: u32 = u32::MAX;
 
-// A map whole, lists of its buckets, its file, its sheet, and the first bucket and the first bin that there are not.
-pub fn map(h: Header, tops: &[u32; 65], rest: &[[u32; 2081]; 3], d: &Directory, s: State) -> State {
-    let tops = &tops[..];
-    let ends = &rest[0][..];
-    let blocks = &rest[1][..];
-    let adjustments = &rest[2][..];
-    let s = buckets(h, tops, ends, blocks, adjustments, d, s.buckets, s);
-    let s = bins(h, tops, ends, blocks, adjustments, d, s.bins, s);
-    let s = list::lists(h, tops, ends, blocks, adjustments, d, s);
-    let s = file::files(h, tops, ends, blocks, adjustments, d, s);
-    let s = rack_sheet::sheets(h, tops, ends, blocks, adjustments, d, s);
-    let s = place(h, tops, ends, blocks, adjustments, s.buckets, 6, 0, 0, s);
-    find(h, tops, ends, blocks, adjustments, s.bins, LABEL, 7, 0, s)
-}
+// The rows of a page of the move list.
+const PAGE: usize = 7;
 
-// Every bucket's place, and the bucket of every place.
-fn buckets(
-    h: Header,
-    tops: &[u32],
-    ends: &[u32],
-    blocks: &[u32],
-    adjustments: &[u32],
-    d: &Directory,
-    count: u32,
-    before: State,
-) -> State {
-    let mut s = before;
-    let mut next: u32 = 0;
-    while next < count {
-        let bucket = next;
-        next += 1;
-        let bin = get(d, BIN, bucket);
-        let position = get(d, POSITION, bucket);
-        let placed = place(
-            h,
-            tops,
-            ends,
-            blocks,
-            adjustments,
-            bucket,
-            0,
-            bin,
-            position,
-            s,
-        );
-        let found = find(
-            h,
-            tops,
-            ends,
-            blocks,
-            adjustments,
-            bin,
-            position,
-            0,
-            bucket,
-            placed,
-        );
-        s = found;
-        s.buckets_seen = plus(s.buckets_seen, 1);
+const PLACE_PAST: FindReply = FindReply {
+    refusal: Refusal::PlacePast as u32,
+    bucket: 0,
+};
+
+impl Map {
+    // A map whole, lists of its buckets, its file, its sheet, and the first bucket and the first bin that there are not.
+    pub fn compare(&self, counts: &mut Counts) {
+        self.buckets(counts);
+        self.bins(counts);
+        self.lists(counts);
+        self.files(counts);
+        self.sheets(counts);
+        let lent = self.table.lent();
+        let Sizes { buckets, bins } = self.directory.sizes;
+        let past = PlaceReply {
+            refusal: Refusal::BucketPast as u32,
+            bin: 0,
+            position: 0,
+        };
+        placed(lent, buckets, past, counts);
+        found(lent, bins, LABEL, PLACE_PAST, counts);
     }
-    s
-}
 
-pub fn place(
-    h: Header,
-    tops: &[u32],
-    ends: &[u32],
-    blocks: &[u32],
-    adjustments: &[u32],
-    bucket: u32,
-    refusal: u32,
-    bin: u32,
-    position: u32,
-    s: State,
-) -> State {
-    let reply = irr::place(h, tops, ends, blocks, adjustments, bucket);
-    let s = same(s, reply.refusal, refusal);
-    let s = same(s, reply.bin, bin);
-    same(s, reply.position, position)
-}
-
-fn find(
-    h: Header,
-    tops: &[u32],
-    ends: &[u32],
-    blocks: &[u32],
-    adjustments: &[u32],
-    bin: u32,
-    position: u32,
-    refusal: u32,
-    bucket: u32,
-    s: State,
-) -> State {
-    let reply = irr::find(h, tops, ends, blocks, adjustments, bin, position);
-    let s = same(s, reply.refusal, refusal);
-    same(s, reply.bucket, bucket)
-}
-
-// Every bin's size, and nothing found where it holds no bucket.
-fn bins(
-    h: Header,
-    tops: &[u32],
-    ends: &[u32],
-    blocks: &[u32],
-    adjustments: &[u32],
-    d: &Directory,
-    count: u32,
-    before: State,
-) -> State {
-    let mut s = before;
-    let mut next: u32 = 0;
-    while next < count {
-        let bin = next;
-        next += 1;
-        let size = get(d, SIZE, bin);
-        let sized = bin_size(h, tops, ends, blocks, adjustments, bin, size, s);
-        let bare = edges(h, tops, ends, blocks, adjustments, bin, size, sized);
-        s = bare;
-        s.bins_seen = plus(s.bins_seen, 1);
-    }
-    s
-}
-
-// Some position of a bin's label, the label's last, and the one behind the last bucket.
-fn edges(
-    h: Header,
-    tops: &[u32],
-    ends: &[u32],
-    blocks: &[u32],
-    adjustments: &[u32],
-    bin: u32,
-    size: u32,
-    s: State,
-) -> State {
-    let some = remainder(bin, LABEL);
-    let s = find(h, tops, ends, blocks, adjustments, bin, some, 7, 0, s);
-    let last = minus(LABEL, 1);
-    let s = find(h, tops, ends, blocks, adjustments, bin, last, 7, 0, s);
-    let past = plus(LABEL, size);
-    find(h, tops, ends, blocks, adjustments, bin, past, 7, 0, s)
-}
-
-fn bin_size(
-    h: Header,
-    tops: &[u32],
-    ends: &[u32],
-    blocks: &[u32],
-    adjustments: &[u32],
-    bin: u32,
-    size: u32,
-    s: State,
-) -> State {
-    let reply = irr::bin_size(h, tops, ends, blocks, adjustments, bin);
-    let s = same(s, reply.refusal, 0);
-    same(s, reply.buckets, size)
-}
-
-// The move list of the latest growth, asked of the table before it. Pages of 7 rows; the last one is short, or empty.
-pub fn rows(
-    h: Header,
-    tops: &[u32],
-    ends: &[u32],
-    blocks: &[u32],
-    adjustments: &[u32],
-    d: &Directory,
-    before: State,
-) -> State {
-    let mut left = plus(quotient(before.moved, 7), 1);
-    let mut s = before;
-    s.next = 0;
-    let mut first: u32 = 0;
-    while 0 < left {
-        let written = least(7, minus(s.moved, first));
-        let after = page(
-            h,
-            tops,
-            ends,
-            blocks,
-            adjustments,
-            d,
-            first,
-            0,
-            s.moved,
-            written,
-            7,
-            s,
-        );
-        s = after;
-        first = plus(first, 7);
-        left -= 1;
-    }
-    let next = directory::next_moved(d, s.old_buckets, s.next);
-    same(s, next, NONE)
-}
-
-// A page of a move list, from order number `first` on: the refusal, how many rows there are and are written, and `shown` rows.
-pub fn page(
-    h: Header,
-    tops: &[u32],
-    ends: &[u32],
-    blocks: &[u32],
-    adjustments: &[u32],
-    d: &Directory,
-    first: u32,
-    refusal: u32,
-    total: u32,
-    written: u32,
-    shown: u32,
-    s: State,
-) -> State
-    requires { shown ≤ 7 }
-{
-    let mut rows = [NONE; 35];
-    let reply = irr::relocations(
-        h,
-        tops,
-        ends,
-        blocks,
-        adjustments,
-        s.asked_buckets,
-        s.asked_bins,
-        first,
-        &mut rows,
-    );
-    let s = same(s, reply.refusal, refusal);
-    let s = same(s, reply.total, total);
-    let s = same(s, reply.written, written);
-    page_rows(&rows, reply.written, shown, d, s)
-}
-
-// Behind the rows that are written there is nothing.
-fn page_rows(rows: &[u32], written: u32, shown: u32, d: &Directory, before: State) -> State
-    requires { shown ≤ 7 }
-{
-    let mut s = before;
-    let mut i: u32 = 0;
-    while i < shown {
-        if i < written {
-            let bucket = directory::next_moved(d, s.old_buckets, s.next);
-            let after = row(rows, 5 * i, bucket, d, s);
-            s = after;
-        } else {
-            let after = same(s, entry(rows, 5 * i), NONE);
-            s = after;
+    // Every bucket's place, and the bucket of every place.
+    fn buckets(&self, counts: &mut Counts) {
+        let lent = self.table.lent();
+        let d = &self.directory;
+        for (bucket, place) in (0..d.sizes.buckets).zip(d.places()) {
+            placed(lent, bucket, place.reply(), counts);
+            let right = FindReply { refusal: 0, bucket };
+            found(lent, place.bin, place.position, right, counts);
+            counts.buckets += 1;
         }
-        i += 1;
     }
-    s
+
+    // Every bin's size, and nothing found where it holds no bucket: at some position of its label, at the label's last, and at the
+    // one behind the last bucket.
+    fn bins(&self, counts: &mut Counts) {
+        let lent = self.table.lent();
+        let d = &self.directory;
+        for (bin, held) in (0..d.sizes.bins).zip(d.held()) {
+            let reply = lent.bin_size(bin);
+            counts.same(reply.refusal, 0);
+            counts.same(reply.buckets, *held);
+            for position in [bin % LABEL, LABEL - 1, LABEL.saturating_add(*held)] {
+                found(lent, bin, position, PLACE_PAST, counts);
+            }
+            counts.bins += 1;
+        }
+    }
+
+    // The move list of the latest growth, asked of the table before it. The last page is short, or empty.
+    pub fn rows(&self, asked: Sizes, counts: &mut Counts) {
+        let total = self.directory.moved;
+        let mut moves = self.directory.moves();
+        for first in (0..=total).step_by(PAGE) {
+            let written = total.saturating_sub(first).min(PAGE as u32);
+            let right = RelocationsReply {
+                refusal: 0,
+                written,
+                total,
+            };
+            let rows = self.page(asked, first, right, counts);
+            for row in rows.iter().take(written as usize) {
+                let right = moves.next().unwrap_or([UNWRITTEN; 5]);
+                row_same(row, right, counts);
+            }
+            for row in rows.iter().skip(written as usize) {
+                counts.same(row[0], UNWRITTEN);
+            }
+        }
+        counts.holds(moves.next().is_none());
+    }
+
+    // A page that is refused: nothing is written.
+    pub fn no_rows(&self, asked: Sizes, first: u32, refusal: u32, counts: &mut Counts) {
+        let right = RelocationsReply {
+            refusal,
+            written: 0,
+            total: 0,
+        };
+        let [row, ..] = self.page(asked, first, right, counts);
+        counts.same(row[0], UNWRITTEN);
+    }
+
+    // The page from order number `first` on.
+    fn page(
+        &self,
+        asked: Sizes,
+        first: u32,
+        right: RelocationsReply,
+        counts: &mut Counts,
+    ) -> [[u32; 5]; PAGE] {
+        let mut rows = [[UNWRITTEN; 5]; PAGE];
+        let lent = self.table.lent();
+        let reply = lent.relocations(asked, first, rows.as_flattened_mut());
+        counts.same(reply.refusal, right.refusal);
+        counts.same(reply.total, right.total);
+        counts.same(reply.written, right.written);
+        rows
+    }
 }
 
-// A row: a bucket, and its bin and position before and after, in the order of the directory's rows.
-fn row(rows: &[u32], at: u32, bucket: u32, d: &Directory, before: State) -> State
-    requires { at < 35 }
-{
-    let mut s = same(before, entry(rows, at), bucket);
-    s.next = plus(bucket, 1);
-    let mut i: u32 = 0;
-    while i < 4 {
-        let after = same(s, entry(rows, at + i + 1), get(d, i as usize, bucket));
-        s = after;
-        i += 1;
+fn row_same(row: &[u32; 5], right: [u32; 5], counts: &mut Counts) {
+    for (seen, right) in row.iter().zip(right) {
+        counts.same(*seen, right);
     }
-    s.rows_seen = plus(s.rows_seen, 1);
-    s
+    counts.rows += 1;
+}
+
+pub fn placed(lent: Lent<'_>, bucket: u32, right: PlaceReply, counts: &mut Counts) {
+    let reply = lent.place(bucket);
+    counts.same(reply.refusal, right.refusal);
+    counts.same(reply.bin, right.bin);
+    counts.same(reply.position, right.position);
+}
+
+fn found(lent: Lent<'_>, bin: u32, position: u32, right: FindReply, counts: &mut Counts) {
+    let reply = lent.find(bin, position);
+    counts.same(reply.refusal, right.refusal);
+    counts.same(reply.bucket, right.bucket);
 }

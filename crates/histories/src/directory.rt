@@ -1,236 +1,270 @@
-// The directory: the bin and position of every bucket, now and before the latest growth, the first bins of the blocks, and the
-// sizes of the bins. It knows no intervals: a growth deals single buckets.
-use crate::state::State;
-use crate::total::{NONE, minus, plus, quotient, remainder};
+// The directory: the bin and position of every bucket, now and before the latest growth, the blocks, and the sizes of the bins.
+// It knows no intervals: a growth deals single buckets.
+ghost use Rattle.std.specs.Prelude.{◌-◌};
+ghost use Rattle.std.specs.Iterator.{at_most};
 
-// Rows: four with an entry for each bucket, one with the first bin of each block and, behind the last one, n, and one with
-// the number of buckets in each bin.
-pub type Directory = [[u32; 65536]; 6];
+use crate::size::Sizes;
+use model::limits::{BLOCKS, LABEL};
+use model::reply::PlaceReply;
 
-const MOST: u32 = 65_536;
+// Room for so many buckets, and for so many bins.
+pub const MOST: usize = 65_536;
 
-// The first positions of every bin hold its label.
-pub const LABEL: u32 = 8;
+// With the block that a growth adds, which is empty if there are no new bins.
+const MOST_BLOCKS: usize = BLOCKS + 1;
 
-const OLD_BIN: usize = 0;
-
-const OLD_POSITION: usize = 1;
-
-pub const BIN: usize = 2;
-
-pub const POSITION: usize = 3;
-
-const FIRST: usize = 4;
-
-pub const SIZE: usize = 5;
-
-pub fn get(d: &Directory, row: usize, i: u32) -> u32 {
-    if row < 6 {
-        if i < MOST {
-            return d[row][i as usize];
-        }
-    }
-    NONE
+#[derive(Clone, Copy)]
+pub struct Place {
+    pub bin: u32,
+    pub position: u32,
 }
 
-fn put(d: &mut Directory, row: usize, i: u32, x: u32) {
-    if row < 6 {
-        if i < MOST {
-            d[row][i as usize] = x;
+impl Place {
+    // What a placing replies.
+    pub fn reply(self) -> PlaceReply {
+        PlaceReply {
+            refusal: 0,
+            bin: self.bin,
+            position: self.position,
         }
     }
 }
 
-fn width(d: &Directory, block: u32) -> u32 {
-    minus(get(d, FIRST, plus(block, 1)), get(d, FIRST, block))
+// A block: its bins, from the first to the one before `end`.
+#[derive(Clone, Copy)]
+struct Block {
+    first: u32,
+    end: u32,
 }
 
-// The block of a bin: the first that ends above it.
-fn block_of(d: &Directory, bin: u32) -> u32 {
-    let mut block: u32 = 0;
-    while block < 66 {
-        if bin < get(d, FIRST, block + 1) {
-            return block;
+impl Block {
+    fn has(self, bin: u32) -> bool {
+        self.first <= bin && bin < self.end
+    }
+
+    // The due size of the block.
+    fn due(self, sizes: Sizes) -> u32 {
+        (self.first..self.end).fold(0u32, |sum, bin| sum.saturating_add(sizes.due(bin)))
+    }
+
+    // The place of number `rank` of the buckets that are dealt to the bins in turn, past their labels.
+    fn deal(self, rank: u32) -> Place {
+        let width = self.end.saturating_sub(self.first).max(1);
+        Place {
+            bin: self.first.saturating_add(rank % width),
+            position: LABEL.saturating_add(rank / width),
         }
-        block += 1;
     }
-    NONE
 }
 
-// The due size of a bin.
-pub fn due_size(buckets: u32, bins: u32, bin: u32) -> u32 {
-    let size = quotient(buckets, bins);
-    if bin < remainder(buckets, bins) {
-        return plus(size, 1);
-    }
-    size
+#[derive(Drop)]
+pub struct Directory {
+    pub sizes: Sizes,
+    pub capacity: u32,
+    // how many blocks there are
+    pub block_count: u32,
+    // how many buckets the latest growth moved
+    pub moved: u32,
+    blocks: [Block; MOST_BLOCKS],
+    places: [Place; MOST],
+    // B and the places before the latest growth
+    old_buckets: u32,
+    old_places: [Place; MOST],
+    // how many buckets are in each bin
+    held: [u32; MOST],
 }
 
-// The due size of a block.
-fn due(d: &Directory, buckets: u32, bins: u32, block: u32) -> u32 {
-    let top = get(d, FIRST, plus(block, 1));
-    let mut sum: u32 = 0;
-    let mut bin = get(d, FIRST, block);
-    while bin < top {
-        sum = plus(sum, due_size(buckets, bins, bin));
-        bin += 1;
-    }
-    sum
-}
-
-// How many of the buckets below `count` are in the `width` bins from `first` on.
-fn held(d: &Directory, count: u32, first: u32, width: u32) -> u32 {
-    let mut sum: u32 = 0;
-    let mut bucket: u32 = 0;
-    while bucket < count {
-        if minus(get(d, BIN, bucket), first) < width {
-            sum = plus(sum, 1);
+impl Directory {
+    // Before a fresh map: no buckets and no bins.
+    pub fn empty(capacity: u32) -> Self {
+        Directory {
+            sizes: Sizes {
+                buckets: 0,
+                bins: 0,
+            },
+            capacity,
+            block_count: 0,
+            moved: 0,
+            blocks: [Block { first: 0, end: 0 }; MOST_BLOCKS],
+            places: [Place {
+                bin: 0,
+                position: 0,
+            }; MOST],
+            old_buckets: 0,
+            old_places: [Place {
+                bin: 0,
+                position: 0,
+            }; MOST],
+            held: [0; MOST],
         }
-        bucket += 1;
     }
-    sum
-}
 
-// A bucket is number `rank` of those that are dealt in turn to the `width` bins from `first` on, past their labels.
-fn deal(d: &mut Directory, bucket: u32, first: u32, width: u32, rank: u32) {
-    put(d, BIN, bucket, plus(first, remainder(rank, width)));
-    put(d, POSITION, bucket, plus(LABEL, quotient(rank, width)));
-}
-
-// A growth: what is now becomes what was before. The new bins are a new block, which is empty if there are none. A fresh map
-// grows from nothing.
-pub fn grow(d: &mut Directory, s: State) {
-    remember(d);
-    let blocks = plus(s.blocks, 1);
-    put(d, FIRST, blocks, s.asked_bins);
-    if some_fall(d, blocks, s.buckets, s.asked_buckets, s.asked_bins) {
-        drain(d, s.buckets, s.asked_buckets, s.bins, s.asked_bins);
-    } else {
-        fill(d, blocks, s.buckets, s.asked_buckets, s.asked_bins);
+    // The place of every bucket.
+    pub fn places(&self) -> &[Place] {
+        &self.places[..MOST.min(self.sizes.buckets as usize)]
     }
-    clear_sizes(d);
-    count_sizes(d, s.asked_buckets);
-}
 
-fn remember(d: &mut Directory) {
-    let row = d[BIN];
-    d[OLD_BIN] = row;
-    let row = d[POSITION];
-    d[OLD_POSITION] = row;
-}
+    pub fn place(&self, bucket: u32) -> Option<Place> {
+        self.places.get(bucket as usize).copied()
+    }
 
-// Whether some block is due less than it has.
-fn some_fall(d: &Directory, blocks: u32, count: u32, buckets: u32, bins: u32) -> bool {
-    let mut block: u32 = 0;
-    while block < blocks {
-        let have = held(d, count, get(d, FIRST, block), width(d, block));
-        if due(d, buckets, bins, block) < have {
-            return true;
+    // That of bucket 0.
+    pub fn first_place(&self) -> Place {
+        self.places[0]
+    }
+
+    // The number of buckets in every bin.
+    pub fn held(&self) -> &[u32] {
+        &self.held[..MOST.min(self.sizes.bins as usize)]
+    }
+
+    // The positions that the largest bin takes, its label's too.
+    pub fn largest(&self) -> u32 {
+        let most = self.held().iter().copied().max().unwrap_or(0);
+        LABEL.saturating_add(most)
+    }
+
+    fn blocks(&self) -> &[Block] {
+        &self.blocks[..MOST_BLOCKS.min(self.block_count as usize)]
+    }
+
+    // How many of the buckets below `end` are in a block.
+    fn held_by(&self, block: Block, end: usize) -> u32 {
+        let places = &self.places[..MOST.min(end)];
+        places.iter().filter(|place| block.has(place.bin)).count() as u32
+    }
+
+    // A growth: what is now becomes what was before. The new bins are a new block, which is empty if there are none. A fresh map
+    // grows from nothing.
+    pub fn grow(&mut self, asked: Sizes) {
+        self.old_buckets = self.sizes.buckets;
+        self.old_places = self.places;
+        let new = Block {
+            first: self.sizes.bins,
+            end: asked.bins,
+        };
+        if self.some_falls(asked) {
+            self.drain(new, asked);
+        } else {
+            self.fill(new, asked);
         }
-        block += 1;
-    }
-    false
-}
-
-// Every bucket beyond its bin's due size, and then every new one, is dealt to the new bins in turn.
-fn drain(d: &mut Directory, count: u32, buckets: u32, old_bins: u32, bins: u32) {
-    let mut dealt: u32 = 0;
-    let mut bucket: u32 = 0;
-    while bucket < buckets {
-        if goes(d, count, buckets, bins, bucket) {
-            deal(d, bucket, old_bins, minus(bins, old_bins), dealt);
-            dealt = plus(dealt, 1);
+        if let Some(block) = self.blocks.get_mut(self.block_count as usize) {
+            *block = new;
         }
-        bucket += 1;
-    }
-}
-
-fn goes(d: &Directory, count: u32, buckets: u32, bins: u32, bucket: u32) -> bool {
-    if bucket < count {
-        let due = plus(LABEL, due_size(buckets, bins, get(d, BIN, bucket)));
-        return due <= get(d, POSITION, bucket);
-    }
-    true
-}
-
-// The new buckets are handed out block by block: the last bucket's block first, and the new block last. A block that has
-// its due already is handed nothing: so is the last bucket's.
-fn fill(d: &mut Directory, blocks: u32, count: u32, buckets: u32, bins: u32) {
-    let mut next = fill_block(d, buckets, bins, last_block(d, count), count);
-    let mut block: u32 = 0;
-    while block < blocks {
-        next = fill_block(d, buckets, bins, block, next);
-        block += 1;
-    }
-}
-
-fn last_block(d: &Directory, count: u32) -> u32 {
-    block_of(d, get(d, BIN, minus(count, 1)))
-}
-
-// Hands buckets from `start` on to a block until it has its due. The next bucket.
-fn fill_block(d: &mut Directory, buckets: u32, bins: u32, block: u32, start: u32) -> u32 {
-    let due = due(d, buckets, bins, block);
-    let first = get(d, FIRST, block);
-    let width = width(d, block);
-    let mut rank = held(d, start, first, width);
-    let mut next = start;
-    while rank < due {
-        deal(d, next, first, width, rank);
-        next = plus(next, 1);
-        rank += 1;
-    }
-    next
-}
-
-fn clear_sizes(d: &mut Directory) {
-    d[SIZE] = [0; 65536];
-}
-
-fn count_sizes(d: &mut Directory, count: u32) {
-    let mut bucket: u32 = 0;
-    while bucket < count {
-        let bin = get(d, BIN, bucket);
-        put(d, SIZE, bin, plus(get(d, SIZE, bin), 1));
-        bucket += 1;
-    }
-}
-
-// The positions that the largest bin takes, its label's too.
-pub fn largest(d: &Directory, bins: u32) -> u32 {
-    let mut most: u32 = 0;
-    let mut bin: u32 = 0;
-    while bin < bins {
-        let size = get(d, SIZE, bin);
-        if most < size {
-            most = size;
+        if self.sizes.bins < asked.bins {
+            self.block_count = self.block_count.saturating_add(1);
         }
-        bin += 1;
+        self.sizes = asked;
+        self.count_held();
+        self.moved = self.count_moved();
     }
-    plus(LABEL, most)
+
+    // Whether some block is due less than it has.
+    fn some_falls(&self, asked: Sizes) -> bool {
+        let end = self.sizes.buckets as usize;
+        self.blocks()
+            .iter()
+            .any(|block| block.due(asked) < self.held_by(*block, end))
+    }
+
+    // Every bucket beyond its bin's due size, and then every new one, is dealt to the new bins in turn.
+    fn drain(&mut self, new: Block, asked: Sizes) {
+        let old_buckets = self.sizes.buckets as usize;
+        let leaving = self
+            .places
+            .iter_mut()
+            .take(asked.buckets as usize)
+            .enumerate()
+            .filter(|(bucket, place)| {
+                old_buckets <= *bucket
+                    || LABEL.saturating_add(asked.due(place.bin)) <= place.position
+            });
+        for (rank, (_, place)) in (0..asked.buckets).zip(leaving) {
+            *place = new.deal(rank);
+        }
+    }
+
+    // The new buckets are handed out block by block: the last bucket's block first, and the new block last. A block that has
+    // its due already is handed nothing: so is the last bucket's.
+    fn fill(&mut self, new: Block, asked: Sizes) {
+        let blocks = self.blocks;
+        let old = blocks.iter().copied().take(self.block_count as usize);
+        let mut next = self.sizes.buckets as usize;
+        for block in self.last_block().into_iter().chain(old).chain([new]) {
+            next = self.hand(block, asked, next);
+        }
+    }
+
+    // The block of the last bucket.
+    fn last_block(&self) -> Option<Block> {
+        let last = self.places().last()?;
+        self.blocks()
+            .iter()
+            .copied()
+            .find(|block| block.has(last.bin))
+    }
+
+    // Hands buckets from `start` on to a block until it has its due. The next bucket.
+    fn hand(&mut self, block: Block, asked: Sizes, start: usize) -> usize {
+        let held = self.held_by(block, start);
+        let due = block.due(asked);
+        if let Some(places) = self.places.get_mut(start..) {
+            for (place, rank) in places.iter_mut().zip(held..due) {
+                *place = block.deal(rank);
+            }
+        }
+        start.saturating_add(due.saturating_sub(held) as usize)
+    }
+
+    fn count_held(&mut self) {
+        self.held.fill(0);
+        let buckets = MOST.min(self.sizes.buckets as usize);
+        for place in &self.places[..buckets] {
+            if let Some(held) = self.held.get_mut(place.bin as usize) {
+                *held = held.saturating_add(1);
+            }
+        }
+    }
+
+    // How many buckets the latest growth moved: they have another bin.
+    fn count_moved(&self) -> u32 {
+        let old = self.old_places.iter().take(self.old_buckets as usize);
+        old.zip(&self.places)
+            .filter(|(old, new)| old.bin != new.bin)
+            .count() as u32
+    }
+
+    // The move list of the latest growth, from its beginning.
+    pub fn moves(&self) -> Moves<'_> {
+        Moves {
+            directory: self,
+            next: 0,
+        }
+    }
 }
 
-// How many of the first `count` buckets have another bin.
-pub fn moved(d: &Directory, count: u32) -> u32 {
-    let mut sum: u32 = 0;
-    let mut bucket: u32 = 0;
-    while bucket < count {
-        if get(d, BIN, bucket) != get(d, OLD_BIN, bucket) {
-            sum = plus(sum, 1);
-        }
-        bucket += 1;
-    }
-    sum
+// The buckets that a growth moved, as rows of the move list: a bucket, and its bin and position before and after.
+#[derive(Drop)]
+pub struct Moves<'a> {
+    directory: &'a Directory,
+    next: u32,
 }
 
-// The next of them from `start` on.
-pub fn next_moved(d: &Directory, count: u32, start: u32) -> u32 {
-    let mut bucket = start;
-    while bucket < count {
-        if get(d, BIN, bucket) != get(d, OLD_BIN, bucket) {
-            return bucket;
+impl Iterator for Moves<'_> {
+    type Item = [u32; 5];
+
+    ghost remaining = { λ m. at_most (m.directory.now.old_buckets - m.next) };
+
+    fn next(&mut self) -> Option<[u32; 5]> {
+        let d = self.directory;
+        for bucket in self.next..d.old_buckets {
+            let old = d.old_places.get(bucket as usize)?;
+            let new = d.places.get(bucket as usize)?;
+            if old.bin != new.bin {
+                self.next = bucket + 1;
+                return Some([bucket, old.bin, old.position, new.bin, new.position]);
+            }
         }
-        bucket += 1;
+        None
     }
-    NONE
 }

@@ -1,171 +1,89 @@
 // The saved form of a map. What the directory's largest bin takes is the least capacity: the map is accepted with it, lent or
 // loaded, and with one less it is refused by 30.
-use crate::compare::place;
-use crate::directory;
-use crate::directory::{BIN, Directory, POSITION, get};
-use crate::state::{State, same};
-use crate::total::{NONE, entry, minus, plus};
+use crate::calls::Table;
+use crate::compare::{UNWRITTEN, placed};
+use crate::counts::Counts;
+use crate::history::Map;
+use crate::refusal::Refusal;
 use model::limits::MAX_CAPACITY;
-use model::reply::LoadReply;
+use model::reply::PlaceReply;
 use model::table::Header;
 
-// Lent with the two capacities; saved, and loaded with them and with the greatest.
-pub fn files(
-    h: Header,
-    tops: &[u32],
-    ends: &[u32],
-    blocks: &[u32],
-    adjustments: &[u32],
-    d: &Directory,
-    s: State,
-) -> State {
-    let least = directory::largest(d, s.bins);
-    let s = lent(h, tops, ends, blocks, adjustments, d, least, s);
-    let mut file = [0u8; 16920];
-    let reply = irr::save(h, tops, ends, blocks, adjustments, &mut file);
-    let mut s = same(s, reply.refusal, 0);
-    s.files_seen = plus(s.files_seen, 1);
-    loads(
-        h,
-        tops,
-        ends,
-        blocks,
-        adjustments,
-        &file,
-        reply.length,
-        least,
-        s,
-    )
-}
-
-fn lent(
-    h: Header,
-    tops: &[u32],
-    ends: &[u32],
-    blocks: &[u32],
-    adjustments: &[u32],
-    d: &Directory,
-    least: u32,
-    s: State,
-) -> State {
-    let bin = get(d, BIN, 0);
-    let position = get(d, POSITION, 0);
-    let mut tight = h;
-    tight.capacity = least;
-    let s = place(
-        tight,
-        tops,
-        ends,
-        blocks,
-        adjustments,
-        0,
-        0,
-        bin,
-        position,
-        s,
-    );
-    let mut small = h;
-    small.capacity = minus(least, 1);
-    place(small, tops, ends, blocks, adjustments, 0, 30, 0, 0, s)
-}
-
-// The first `length` bytes are lent.
-fn loads(
-    h: Header,
-    tops: &[u32],
-    ends: &[u32],
-    blocks: &[u32],
-    adjustments: &[u32],
-    file: &[u8],
-    length: u32,
-    least: u32,
-    s: State,
-) -> State {
-    if file.len() < length as usize {
-        return same(s, length, NONE);
+impl Map {
+    // Lent with the two capacities; saved, and loaded with them and with the greatest.
+    pub fn files(&self, counts: &mut Counts) {
+        let least = self.directory.largest();
+        let less = least.saturating_sub(1);
+        self.tight_places(least, less, counts);
+        let mut file = [0u8; 16_920];
+        let reply = self.table.lent().save(&mut file);
+        counts.same(reply.refusal, 0);
+        counts.files += 1;
+        match file.get(..reply.length as usize) {
+            Some(bytes) => {
+                not_loaded(bytes, less, counts);
+                self.loaded(bytes, least, counts);
+                self.loaded(bytes, MAX_CAPACITY, counts);
+            }
+            None => counts.holds(false),
+        }
     }
-    let bytes = &file[..length as usize];
-    let s = refused(bytes, minus(least, 1), s);
-    let s = loaded(h, tops, ends, blocks, adjustments, bytes, least, s);
-    loaded(h, tops, ends, blocks, adjustments, bytes, MAX_CAPACITY, s)
+
+    fn tight_places(&self, least: u32, less: u32, counts: &mut Counts) {
+        let lent = self.table.lent();
+        let right = self.directory.first_place().reply();
+        placed(lent.with_capacity(least), 0, right, counts);
+        let refused = PlaceReply {
+            refusal: Refusal::CapacityWrong as u32,
+            bin: 0,
+            position: 0,
+        };
+        placed(lent.with_capacity(less), 0, refused, counts);
+    }
+
+    // The same table, with the capacity given.
+    fn loaded(&self, bytes: &[u8], capacity: u32, counts: &mut Counts) {
+        let mut new = Table::filled(UNWRITTEN);
+        let reply = new.load(bytes, capacity);
+        let right = Header {
+            capacity,
+            ..self.table.header
+        };
+        counts.same(reply.refusal, 0);
+        headers_same(reply.header, right, counts);
+        alike(&new.tops, &self.table.tops, right.block_count, counts);
+        let intervals = right.interval_count;
+        alike(&new.ends, &self.table.ends, intervals, counts);
+        alike(&new.blocks, &self.table.blocks, intervals, counts);
+        alike(&new.adjustments, &self.table.adjustments, intervals, counts);
+    }
 }
 
 // Refused by 30: zeros, and nothing written.
-fn refused(bytes: &[u8], capacity: u32, s: State) -> State {
-    let mut tops = [NONE; 65];
-    let mut ends = [NONE; 2081];
-    let mut blocks = [NONE; 2081];
-    let mut adjustments = [NONE; 2081];
-    let reply = irr::load(
-        bytes,
-        capacity,
-        &mut tops,
-        &mut ends,
-        &mut blocks,
-        &mut adjustments,
-    );
-    let s = replied(reply, 30, 0, 0, 0, 0, s);
-    let s = same(s, entry(&tops, 0), NONE);
-    let s = same(s, entry(&ends, 0), NONE);
-    let s = same(s, entry(&blocks, 0), NONE);
-    same(s, entry(&adjustments, 0), NONE)
+fn not_loaded(bytes: &[u8], capacity: u32, counts: &mut Counts) {
+    let mut new = Table::filled(UNWRITTEN);
+    let zeros = new.header;
+    let reply = new.load(bytes, capacity);
+    counts.same(reply.refusal, Refusal::CapacityWrong as u32);
+    headers_same(reply.header, zeros, counts);
+    counts.same(new.tops[0], UNWRITTEN);
+    counts.same(new.ends[0], UNWRITTEN);
+    counts.same(new.blocks[0], UNWRITTEN);
+    counts.same(new.adjustments[0], UNWRITTEN);
 }
 
-// The same table, with the capacity given.
-fn loaded(
-    h: Header,
-    tops: &[u32],
-    ends: &[u32],
-    blocks: &[u32],
-    adjustments: &[u32],
-    bytes: &[u8],
-    capacity: u32,
-    s: State,
-) -> State {
-    let mut new_tops = [NONE; 65];
-    let mut new_ends = [NONE; 2081];
-    let mut new_blocks = [NONE; 2081];
-    let mut new_adjustments = [NONE; 2081];
-    let reply = irr::load(
-        bytes,
-        capacity,
-        &mut new_tops,
-        &mut new_ends,
-        &mut new_blocks,
-        &mut new_adjustments,
-    );
-    let intervals = h.interval_count;
-    let s = replied(reply, 0, h.buckets, capacity, h.block_count, intervals, s);
-    let s = alike(&new_tops, tops, h.block_count, s);
-    let s = alike(&new_ends, ends, intervals, s);
-    let s = alike(&new_blocks, blocks, intervals, s);
-    alike(&new_adjustments, adjustments, intervals, s)
-}
-
-fn replied(
-    reply: LoadReply,
-    refusal: u32,
-    buckets: u32,
-    capacity: u32,
-    blocks: u32,
-    intervals: u32,
-    s: State,
-) -> State {
-    let s = same(s, reply.refusal, refusal);
-    let s = same(s, reply.header.buckets, buckets);
-    let s = same(s, reply.header.capacity, capacity);
-    let s = same(s, reply.header.block_count, blocks);
-    same(s, reply.header.interval_count, intervals)
+fn headers_same(seen: Header, right: Header, counts: &mut Counts) {
+    counts.same(seen.buckets, right.buckets);
+    counts.same(seen.capacity, right.capacity);
+    counts.same(seen.block_count, right.block_count);
+    counts.same(seen.interval_count, right.interval_count);
 }
 
 // The first `count` entries of two arrays; behind them the first one keeps what it had.
-fn alike(written: &[u32], right: &[u32], count: u32, before: State) -> State {
-    let mut s = before;
-    let mut i: u32 = 0;
-    while i < count {
-        let after = same(s, entry(written, i), entry(right, i));
-        s = after;
-        i += 1;
+fn alike(written: &[u32], right: &[u32], count: u32, counts: &mut Counts) {
+    let count = count as usize;
+    for (seen, right) in written.iter().zip(right).take(count) {
+        counts.same(*seen, *right);
     }
-    same(s, entry(written, count), NONE)
+    counts.holds(written.get(count).is_none_or(|entry| *entry == UNWRITTEN));
 }

@@ -3,163 +3,154 @@
 #![tactic(auto)]
 
 mod ask;
+mod calls;
 mod compare;
+mod counts;
 mod directory;
 mod file;
 mod history;
 mod list;
-mod print;
 mod rack_sheet;
-mod state;
-mod total;
+mod random;
+mod refusal;
+mod size;
 
-use crate::directory::{LABEL, due_size};
-use crate::history::play;
-use crate::print::{end, line, number, text};
-use crate::state::{State, below, draw, fresh};
-use crate::total::{entry, least, minus, plus};
-use model::limits::MAX_CAPACITY;
-use model::table::Header;
+use crate::ask::Growths;
+use crate::counts::Counts;
+use crate::history::Map;
+use crate::random::Random;
+use crate::size::Sizes;
+use model::limits::{LABEL, MAX_BINS, MAX_CAPACITY};
 use std::io;
 
-// So many random histories of so many growths each, from at most `first` buckets.
-fn random(
-    rt: &impl Print,
-    before: State,
-    histories: u32,
-    first: u32,
-    most_buckets: u32,
-    most_bins: u32,
-    growths: u32,
-) -> io::Result<State> {
-    let mut s = before;
-    let mut i: u32 = 0;
-    while i < histories {
-        let begin = started(s, first);
-        let after = play(rt, begin, most_buckets, most_bins, growths)?;
-        s = after;
-        i += 1;
+#[derive(Drop)]
+struct Run {
+    counts: Counts,
+    random: Random,
+}
+
+impl Run {
+    // So many random histories of so many growths each, from at most `most` buckets.
+    fn random(
+        &mut self,
+        rt: &impl Print,
+        histories: u32,
+        most: u32,
+        growths: Growths,
+        count: u32,
+    ) -> io::Result<()> {
+        for _ in 0..histories {
+            let fresh = self.fresh(most);
+            let capacity = self.capacity(fresh);
+            self.play(rt, fresh, capacity, growths, count)?;
+        }
+        Ok(())
     }
-    Ok(s)
-}
 
-fn started(s: State, first: u32) -> State {
-    let seed = draw(s.seed);
-    let buckets = plus(below(seed, first), 1);
-    let seed = draw(seed);
-    let bins = plus(below(seed, least(buckets, 8)), 1);
-    let seed = draw(seed);
-    fresh(s, seed, buckets, bins, capacity(seed, buckets, bins))
-}
-
-// A random capacity for a fresh map: what its largest bin takes, somewhat more, or the greatest.
-fn capacity(seed: u32, buckets: u32, bins: u32) -> u32 {
-    let size = due_size(buckets, bins, 0);
-    let taken = plus(LABEL, size);
-    let twice = plus(taken, size);
-    let capacities = [
-        taken,
-        plus(taken, 2),
-        twice,
-        plus(twice, plus(size, size)),
-        MAX_CAPACITY,
-        MAX_CAPACITY,
-    ];
-    entry(&capacities, below(seed, 6))
-}
-
-// Document 01's figure of the most bins: Fresh (65535, 65535).
-fn widest(rt: &impl Print, before: State) -> io::Result<State> {
-    let s = play(
-        rt,
-        fresh(before, before.seed, 65_535, 65_535, MAX_CAPACITY),
-        0,
-        0,
-        0,
-    )?;
-    text(rt, b"fresh map: buckets, bins, comparisons, failed")?;
-    number(rt, s.buckets)?;
-    number(rt, s.bins)?;
-    number(rt, minus(s.compared, before.compared))?;
-    number(rt, minus(s.failed, before.failed))?;
-    end(rt)?;
-    Ok(s)
-}
-
-fn refusals(rt: &impl Print, s: State) -> io::Result<()> {
-    let mut i: usize = 1;
-    while i < 32 {
-        refusal(rt, i as u32, s.refused[i])?;
-        i += 1;
+    // Random sizes of a fresh map.
+    fn fresh(&mut self, most: u32) -> Sizes {
+        let buckets = self.random.below(most).saturating_add(1);
+        let bins = self.random.below(buckets.min(8)).saturating_add(1);
+        Sizes { buckets, bins }
     }
-    Ok(())
-}
 
-fn refusal(rt: &impl Print, i: u32, count: u32) -> io::Result<()> {
-    if count != 0 {
-        text(rt, b"growths refused by")?;
-        number(rt, i)?;
-        number(rt, count)?;
-        end(rt)?;
+    // A random capacity for a fresh map: what its largest bin takes, somewhat more, or the greatest.
+    fn capacity(&mut self, fresh: Sizes) -> u32 {
+        let size = fresh.due(0);
+        let taken = LABEL.saturating_add(size);
+        match self.random.below(6) {
+            0 => taken,
+            1 => taken.saturating_add(2),
+            2 => taken.saturating_add(size),
+            3 => taken.saturating_add(size.saturating_mul(3)),
+            _ => MAX_CAPACITY,
+        }
     }
-    Ok(())
+
+    // A history: a fresh map, and so many growths.
+    fn play(
+        &mut self,
+        rt: &impl Print,
+        fresh: Sizes,
+        capacity: u32,
+        growths: Growths,
+        count: u32,
+    ) -> io::Result<()> {
+        let mut map = Map::empty(capacity);
+        map.begin(fresh, &mut self.counts);
+        for i in 0..count {
+            let asked = growths.asked(map.directory.sizes, i, &mut self.random);
+            map.grow(rt, asked, &mut self.counts)?;
+        }
+        Ok(())
+    }
+
+    // Document 01's figure of the most bins: Fresh (65535, 65535).
+    fn widest(&mut self, rt: &impl Print) -> io::Result<()> {
+        let before = self.counts;
+        let fresh = Sizes {
+            buckets: MAX_BINS,
+            bins: MAX_BINS,
+        };
+        self.play(rt, fresh, MAX_CAPACITY, Growths::Planned, 0)?;
+        let compared = self.counts.compared - before.compared;
+        let failed = self.counts.failed - before.failed;
+        println!(rt;
+            "fresh map: buckets, bins, comparisons, failed {} {} {compared} {failed}",
+            fresh.buckets, fresh.bins
+        )
+    }
 }
 
-fn print_histories(rt: &impl Print, s: State) -> io::Result<()> {
-    line(rt, b"histories", s.histories)?;
-    line(rt, b"accepted growths", s.accepted)?;
-    line(rt, b"most intervals", s.intervals)
-}
-
-fn print_comparisons(rt: &impl Print, s: State) -> io::Result<()> {
-    line(rt, b"buckets", s.buckets_seen)?;
-    line(rt, b"bins", s.bins_seen)?;
-    line(rt, b"rows", s.rows_seen)?;
-    line(rt, b"listed buckets", s.listed_seen)?;
-    line(rt, b"files", s.files_seen)?;
-    line(rt, b"lines", s.lines_seen)?;
-    line(rt, b"comparisons", s.compared)?;
-    line(rt, b"failed", s.failed)
+fn print_counts(rt: &impl Print, counts: &Counts) -> io::Result<()> {
+    println!(rt; "histories {}", counts.histories)?;
+    println!(rt; "accepted growths {}", counts.accepted)?;
+    println!(rt; "most intervals {}", counts.intervals)?;
+    for (refusal, count) in counts.refused.iter().enumerate() {
+        if count.0 != 0 {
+            println!(rt; "growths refused by {refusal} {count}")?;
+        }
+    }
+    println!(rt; "buckets {}", counts.buckets)?;
+    println!(rt; "bins {}", counts.bins)?;
+    println!(rt; "rows {}", counts.rows)?;
+    println!(rt; "listed buckets {}", counts.listed)?;
+    println!(rt; "files {}", counts.files)?;
+    println!(rt; "lines {}", counts.lines)?;
+    println!(rt; "comparisons {}", counts.compared)?;
+    println!(rt; "failed {}", counts.failed)
 }
 
 fn main(rt: HostRuntime) -> io::Result<()> {
-    let s = State {
-        histories: 0,
-        accepted: 0,
-        refused: [0; 32],
-        intervals: 0,
-        buckets_seen: 0,
-        bins_seen: 0,
-        rows_seen: 0,
-        listed_seen: 0,
-        files_seen: 0,
-        lines_seen: 0,
-        compared: 0,
-        failed: 0,
-        seed: 20_261_115,
-        buckets: 0,
-        bins: 0,
-        blocks: 0,
-        capacity: 0,
-        old_buckets: 0,
-        moved: 0,
-        next: 0,
-        asked_buckets: 0,
-        asked_bins: 0,
-        header: Header {
-            buckets: 0,
-            capacity: 0,
-            block_count: 0,
-            interval_count: 0,
-        },
+    let mut run = Run {
+        counts: Counts::default(),
+        random: Random::new(20_261_115),
     };
-    let s = random(&rt, s, 40, 12, 4, 2, 30)?;
-    let s = random(&rt, s, 10, 60, 30, 5, 30)?;
-    let s = random(&rt, s, 4, 200, 300, 30, 24)?;
-    let s = random(&rt, s, 2, 30, 5, 1, 150)?;
-    let s = play(&rt, fresh(s, s.seed, 200, 1, MAX_CAPACITY), 0, 0, 116)?;
-    let s = widest(&rt, s)?;
-    print_histories(&rt, s)?;
-    refusals(&rt, s)?;
-    print_comparisons(&rt, s)
+    let few = Growths::Random {
+        buckets: 4,
+        bins: 2,
+    };
+    let more = Growths::Random {
+        buckets: 30,
+        bins: 5,
+    };
+    let many = Growths::Random {
+        buckets: 300,
+        bins: 30,
+    };
+    let long = Growths::Random {
+        buckets: 5,
+        bins: 1,
+    };
+    run.random(&rt, 40, 12, few, 30)?;
+    run.random(&rt, 10, 60, more, 30)?;
+    run.random(&rt, 4, 200, many, 24)?;
+    run.random(&rt, 2, 30, long, 150)?;
+    let narrow = Sizes {
+        buckets: 200,
+        bins: 1,
+    };
+    run.play(&rt, narrow, MAX_CAPACITY, Growths::Planned, 116)?;
+    run.widest(&rt)?;
+    print_counts(&rt, &run.counts)
 }

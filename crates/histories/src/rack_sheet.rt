@@ -1,141 +1,62 @@
 // The rack sheet of a map: its lines are read back, and compared with the table and with the directory.
-use crate::directory::{BIN, Directory, get};
-use crate::state::{State, same};
-use crate::total::{NONE, entry, minus, plus};
-use model::table::Header;
+use crate::counts::Counts;
+use crate::history::Map;
+use model::limits::INTERVALS;
+use std::ops::Range;
 
-// One line an interval, 51 bytes each, and nothing behind them.
-pub fn sheets(
-    h: Header,
-    tops: &[u32],
-    ends: &[u32],
-    blocks: &[u32],
-    adjustments: &[u32],
-    d: &Directory,
-    s: State,
-) -> State {
-    let mut text = [b'.'; 106_132];
-    let reply = irr::sheet(h, tops, ends, blocks, adjustments, &mut text);
-    let s = same(s, reply.refusal, 0);
-    lines(
-        h.interval_count,
-        tops,
-        ends,
-        blocks,
-        d,
-        &text,
-        reply.length,
-        s,
-    )
-}
+// The bytes of a line: five fields of ten columns, and a line feed.
+const LINE: usize = 51;
 
-fn lines(
-    count: u32,
-    tops: &[u32],
-    ends: &[u32],
-    blocks: &[u32],
-    d: &Directory,
-    text: &[u8],
-    length: u32,
-    before: State,
-) -> State {
-    let mut s = before;
-    let mut at: u32 = 0;
-    let mut start: u32 = 0;
-    let mut i: u32 = 0;
-    while i < count {
-        let end = entry(ends, i);
-        let after = line(tops, entry(blocks, i), start, end, d, text, at, s);
-        s = after;
-        start = end;
-        at = plus(at, 51);
-        i += 1;
+const FIELD: usize = 10;
+
+// Room for the most lines, and one byte behind them.
+const ROOM: usize = LINE * INTERVALS + 1;
+
+impl Map {
+    // One line an interval, and nothing behind them.
+    pub fn sheets(&self, counts: &mut Counts) {
+        let table = &self.table;
+        let mut text = [b'.'; ROOM];
+        let reply = table.lent().sheet(&mut text);
+        counts.same(reply.refusal, 0);
+        let count = table.header.interval_count as usize;
+        let (lines, _) = text.as_chunks::<LINE>();
+        let mut first = 0;
+        let intervals = table.ends.iter().zip(&table.blocks).take(count);
+        for (line, (end, block)) in lines.iter().zip(intervals) {
+            self.line(line, first..*end, *block, counts);
+            first = *end;
+        }
+        counts.lines += table.header.interval_count;
+        let length = LINE * count;
+        counts.same(reply.length as usize, length);
+        counts.holds(text.get(length).is_some_and(|byte| *byte == b'.'));
     }
-    s.lines_seen = plus(s.lines_seen, count);
-    let s = same(s, length, at);
-    same(s, byte(text, at), 46)
-}
 
-// The five numbers of the line at place `at`, and its line feed. The first bucket and the last lie in its bins.
-fn line(
-    tops: &[u32],
-    block: u32,
-    start: u32,
-    end: u32,
-    d: &Directory,
-    text: &[u8],
-    at: u32,
-    s: State,
-) -> State {
-    let first = before(tops, block);
-    let bins = minus(entry(tops, block), first);
-    let s = same(s, field(text, at), start);
-    let s = same(s, field(text, plus(at, 10)), minus(end, 1));
-    let s = same(s, field(text, plus(at, 20)), block);
-    let s = same(s, field(text, plus(at, 30)), first);
-    let s = same(s, field(text, plus(at, 40)), bins);
-    let s = same(s, byte(text, plus(at, 50)), 10);
-    let s = within(get(d, BIN, start), first, bins, s);
-    within(get(d, BIN, minus(end, 1)), first, bins, s)
-}
-
-fn within(bin: u32, first: u32, bins: u32, s: State) -> State {
-    if first <= bin {
-        if minus(bin, first) < bins {
-            return same(s, 0, 0);
+    // The line of an interval: first bucket, last bucket, block, first bin, bins in the block. The first bucket and the last lie
+    // in those bins.
+    fn line(&self, line: &[u8; LINE], buckets: Range<u32>, block: u32, counts: &mut Counts) {
+        let bins = self.table.bins_of(block);
+        let last = buckets.end.saturating_sub(1);
+        let width = bins.end.saturating_sub(bins.start);
+        let right = [buckets.start, last, block, bins.start, width];
+        let (fields, feed) = line.as_chunks::<FIELD>();
+        for (field, right) in fields.iter().zip(right) {
+            counts.same(number(field), Some(right));
+        }
+        counts.holds(feed == b"\n".as_slice());
+        for bucket in [buckets.start, last] {
+            let place = self.directory.place(bucket);
+            counts.holds(place.is_some_and(|place| bins.contains(&place.bin)));
         }
     }
-    same(s, bin, NONE)
 }
 
-fn before(tops: &[u32], block: u32) -> u32 {
-    if block == 0 {
-        return 0;
-    }
-    entry(tops, minus(block, 1))
-}
-
-fn byte(bytes: &[u8], i: u32) -> u32 {
-    if (i as usize) < bytes.len() {
-        return wide(bytes[i as usize]);
-    }
-    NONE
-}
-
-fn wide(byte: u8) -> u32 {
-    byte as u32
-}
-
-// Ten columns: blanks, then digits.
-fn field(text: &[u8], at: u32) -> u32 {
-    let mut value: u32 = NONE;
-    let mut i: u32 = 0;
-    while i < 10 {
-        let after = column(value, byte(text, plus(at, i)));
-        value = after;
-        i += 1;
-    }
-    value
-}
-
-// The value after one more column. NONE stands for no digit yet, and a wrong character leaves a value that no number has.
-fn column(value: u32, character: u32) -> u32 {
-    if value == NONE {
-        if character == 32 {
-            return NONE;
-        }
-        return digit(0, character);
-    }
-    digit(value, character)
-}
-
-fn digit(value: u32, character: u32) -> u32 {
-    if value <= 99_999_999 {
-        if 48 <= character {
-            if character <= 57 {
-                return 10 * value + (character - 48);
-            }
-        }
-    }
-    2_000_000_000
+// Blanks, then digits.
+fn number(field: &[u8; FIELD]) -> Option<u32> {
+    let blanks = field.iter().position(|column| *column != b' ')?;
+    field.iter().skip(blanks).try_fold(0u32, |value, column| {
+        let digit = char::from(*column).to_digit(10)?;
+        value.checked_mul(10)?.checked_add(digit)
+    })
 }

@@ -6,6 +6,9 @@ ghost use Rattle.std.specs.Prelude.{◌≡◌};
 ghost use Rattle.model.specs.Table.{sizes, arrays};
 ghost use Rattle.model.specs.Calls.{initial_reply, initial_arrays, expand_reply, expand_arrays, relocations_reply, relocations_rows, place_reply, places_reply, places_after, find_reply, bin_size_reply, room_reply, save_reply, save_bytes, load_reply, load_arrays, sheet_reply, sheet_bytes};
 
+mod results;
+mod saved;
+
 use model::reply::{
     BinSizeReply, FindReply, LoadReply, PlaceReply, PlacesReply, RelocationsReply, RoomReply,
     SaveReply, SheetReply, TableReply,
@@ -25,10 +28,7 @@ pub fn initial(
     ensures value { result ≡ initial_reply (sizes buckets bins) capacity (arrays tops.old ends.old blocks.old adjustments.old) }
     ensures arrays_left { arrays tops.new ends.new blocks.new adjustments.new ≡ initial_arrays (sizes buckets bins) capacity (arrays tops.old ends.old blocks.old adjustments.old) }
 {
-    if sizes::room_short(tops, ends, blocks, adjustments) {
-        return sizes::refused_table(21);
-    }
-    fresh::mapped(buckets, bins, capacity, tops, ends, blocks, adjustments)
+    TableReply::from(results::initial(buckets, bins, capacity, tops, ends, blocks, adjustments))
 }
 
 // A growth: writes the table of `buckets` in `bins` that follows the lent one to four other arrays.
@@ -50,14 +50,7 @@ pub fn expand(
     ensures arrays_left { arrays new_tops.new new_ends.new new_blocks.new new_adjustments.new ≡ expand_arrays header (arrays tops.now ends.now blocks.now adjustments.now)
         (sizes buckets bins) (arrays new_tops.old new_ends.old new_blocks.old new_adjustments.old) }
 {
-    if sizes::room_short(new_tops, new_ends, new_blocks, new_adjustments) {
-        return sizes::refused_table(21);
-    }
-    let refusal = soundness::check(header, tops, ends, blocks, adjustments);
-    if refusal != 0 {
-        return sizes::refused_table(refusal);
-    }
-    expansion::grown(
+    TableReply::from(results::expand(
         header,
         tops,
         ends,
@@ -69,7 +62,7 @@ pub fn expand(
         new_ends,
         new_blocks,
         new_adjustments,
-    )
+    ))
 }
 
 // The move list of a growth: rows of five numbers from order number `first` on, written to `rows`.
@@ -87,15 +80,7 @@ pub fn relocations(
     ensures value { result ≡ relocations_reply header (arrays tops.now ends.now blocks.now adjustments.now) (sizes buckets bins) first rows.old }
     ensures rows_left { rows.new ≡ relocations_rows header (arrays tops.now ends.now blocks.now adjustments.now) (sizes buckets bins) first rows.old }
 {
-    let refusal = soundness::check(header, tops, ends, blocks, adjustments);
-    if refusal != 0 {
-        return RelocationsReply {
-            refusal,
-            written: 0,
-            total: 0,
-        };
-    }
-    expansion::relocated(
+    RelocationsReply::from(results::relocations(
         header,
         tops,
         ends,
@@ -105,7 +90,7 @@ pub fn relocations(
         bins,
         first,
         rows,
-    )
+    ))
 }
 
 // The bin and position of a bucket.
@@ -119,15 +104,7 @@ pub fn place(
 ) -> PlaceReply
     ensures { result ≡ place_reply header (arrays tops.now ends.now blocks.now adjustments.now) bucket }
 {
-    let refusal = soundness::check(header, tops, ends, blocks, adjustments);
-    if refusal != 0 {
-        return PlaceReply {
-            refusal,
-            bin: 0,
-            position: 0,
-        };
-    }
-    lookup::placed(header, tops, ends, blocks, adjustments, bucket)
+    PlaceReply::from(results::place(header, tops, ends, blocks, adjustments, bucket))
 }
 
 // The bins and positions of a list of buckets that does not fall, written to `places`: two numbers a bucket, in turn.
@@ -143,17 +120,7 @@ pub fn places(
     ensures value { result ≡ places_reply header (arrays tops.now ends.now blocks.now adjustments.now) buckets.now places.old }
     ensures places_left { places.new ≡ places_after header (arrays tops.now ends.now blocks.now adjustments.now) buckets.now places.old }
 {
-    // two numbers a bucket, without a product that may pass the largest usize
-    if places.len() / 2 < buckets.len() {
-        return PlacesReply { refusal: 33 };
-    }
-    let refusal = soundness::check(header, tops, ends, blocks, adjustments);
-    if refusal != 0 {
-        return PlacesReply { refusal };
-    }
-    PlacesReply {
-        refusal: batch::placed_each(header, tops, ends, blocks, adjustments, buckets, places),
-    }
+    PlacesReply::from(results::places(header, tops, ends, blocks, adjustments, buckets, places))
 }
 
 // The bucket at a position of a bin.
@@ -168,11 +135,7 @@ pub fn find(
 ) -> FindReply
     ensures { result ≡ find_reply header (arrays tops.now ends.now blocks.now adjustments.now) bin position }
 {
-    let refusal = soundness::check(header, tops, ends, blocks, adjustments);
-    if refusal != 0 {
-        return FindReply { refusal, bucket: 0 };
-    }
-    lookup::found(header, tops, ends, blocks, adjustments, bin, position)
+    FindReply::from(results::find(header, tops, ends, blocks, adjustments, bin, position))
 }
 
 // The number of buckets in a bin.
@@ -186,29 +149,14 @@ pub fn bin_size(
 ) -> BinSizeReply
     ensures { result ≡ bin_size_reply header (arrays tops.now ends.now blocks.now adjustments.now) bin }
 {
-    // The check asks this too. Asked here, the compiler takes each length by itself: a pointer and a length that it copies at once,
-    // since nothing else here reads them, wait for the caller's stores of the two.
-    if soundness::arrays_short(header, tops, ends, blocks, adjustments) {
-        return BinSizeReply {
-            refusal: 11,
-            buckets: 0,
-        };
-    }
-    let refusal = soundness::check(header, tops, ends, blocks, adjustments);
-    if refusal != 0 {
-        return BinSizeReply {
-            refusal,
-            buckets: 0,
-        };
-    }
-    lookup::sized(header, tops, bin)
+    BinSizeReply::from(results::bin_size(header, tops, ends, blocks, adjustments, bin))
 }
 
 // The intervals to set aside for a number of expansions.
 pub fn room(expansions: u32) -> RoomReply
     ensures { result ≡ room_reply expansions }
 {
-    sizes::room(expansions)
+    RoomReply::from(sizes::room(expansions))
 }
 
 // The saved form of a table, written to `buffer`.
@@ -223,11 +171,7 @@ pub fn save(
     ensures value { result ≡ save_reply header (arrays tops.now ends.now blocks.now adjustments.now) buffer.old }
     ensures buffer_left { buffer.new ≡ save_bytes header (arrays tops.now ends.now blocks.now adjustments.now) buffer.old }
 {
-    let refusal = soundness::check(header, tops, ends, blocks, adjustments);
-    if refusal != 0 {
-        return SaveReply { refusal, length: 0 };
-    }
-    file_save::saved(header, tops, ends, blocks, buffer)
+    SaveReply::from(saved::save(header, tops, ends, blocks, adjustments, buffer))
 }
 
 // The table of a saved map, with the given capacity, written to the four arrays; the adjustments are worked out.
@@ -242,10 +186,7 @@ pub fn load(
     ensures value { result ≡ load_reply bytes.now capacity (arrays tops.old ends.old blocks.old adjustments.old) }
     ensures arrays_left { arrays tops.new ends.new blocks.new adjustments.new ≡ load_arrays bytes.now capacity (arrays tops.old ends.old blocks.old adjustments.old) }
 {
-    if sizes::room_short(tops, ends, blocks, adjustments) {
-        return refused_load(21);
-    }
-    file_load::loaded(bytes, capacity, tops, ends, blocks, adjustments)
+    LoadReply::from(saved::load(bytes, capacity, tops, ends, blocks, adjustments))
 }
 
 // The rack sheet of a table, a line an interval, written to `buffer`.
@@ -260,23 +201,5 @@ pub fn sheet(
     ensures value { result ≡ sheet_reply header (arrays tops.now ends.now blocks.now adjustments.now) buffer.old }
     ensures buffer_left { buffer.new ≡ sheet_bytes header (arrays tops.now ends.now blocks.now adjustments.now) buffer.old }
 {
-    let refusal = soundness::check(header, tops, ends, blocks, adjustments);
-    if refusal != 0 {
-        return SheetReply { refusal, length: 0 };
-    }
-    sheet::printed(header, tops, ends, blocks, buffer)
-}
-
-fn refused_load(refusal: u32) -> LoadReply
-    ensures { result ≡ record { refusal = refusal; header = record { buckets = 0; capacity = 0; block_count = 0; interval_count = 0 } } }
-{
-    LoadReply {
-        refusal,
-        header: Header {
-            buckets: 0,
-            capacity: 0,
-            block_count: 0,
-            interval_count: 0,
-        },
-    }
+    SheetReply::from(results::sheet(header, tops, ends, blocks, adjustments, buffer))
 }

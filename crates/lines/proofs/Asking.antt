@@ -1,13 +1,18 @@
 -- A line that asks for a bucket, read where it stands. Assumes nothing.
-use Prim.Native.Nat.{ℕ, ◌+◌, ◌≤◌, ◌<◌}
+use Prim.Native.Nat.{ℕ, ◌+◌, ◌-◌, ◌≤◌, ◌<◌}
 use mathlib.Core.Path.{◌≡◌, refl, sym, ◌∙◌, ap}
 use mathlib.Core.Bool.{Bool, true, false, not, false≢true}
 use mathlib.Core.List.{List, [], ◌∷◌, ◌++◌, append-nil}
 use native.Mathlib.Omega.{arith}
 use mathlib.Core.Logic.{⊎_elim}
 use lib.Dec.{eqb, leb}
-use lib.ListN.{length, take, drop, get_or, take-append-drop}
-use lib.Seq.{drop-drop}
+use Rattle.std.specs.Prelude.{Option, Some, None}
+use lib.ListN.{length, take, drop, get_or, take-append-drop, length-drop}
+use lib.Seq.{drop-drop, take_all}
+use lib.Pointwise.{pointwise}
+use Rattle.std.specs.List.{starts_with}
+use Rattle.std.proofs.lemmas.Bool.Decides.{Decides-eqb, same_from_decides}
+use Rattle.std.proofs.lemmas.Slice.Eq.{slice_eq-Decides}
 use borrow.Author.Tests.{le-leb, eqb-true, ne_eqb}
 use Rattle.model.specs.Basics.{if◌then◌otherwise◌, ◌and◌}
 use Rattle.model.specs.Decimal.{digits_only, value}
@@ -17,8 +22,8 @@ use Rattle.model.specs.declared.command.Command.TheVariants.{Fresh, Grow, Where,
 use Rattle.model.proofs.Counts.{bit_cases, and_left, and_right}
 use Rattle.lines.specs.Words.{up_to, bytes_at, DigitsTo, NoDigits, AsksFor, AsksForNone, by_asked}
 use Rattle.lines.specs.declared.asked.Asked.{Asked}
-use Rattle.lines.specs.declared.asked.Asked.TheVariants as asked
 use Rattle.lines.proofs.Spans.{span_first, none_at}
+use Rattle.lines.proofs.Matches.{same_decides}
 use Rattle.lines.proofs.Numbers.{Digits, digits_none, digits_run, digits_value, digits_ended, digits_number, number_is, first_digit}
 
 -- eight digits passed at once, or none yet
@@ -58,14 +63,6 @@ unfolding read words_of in_front command same text ◌and◌ if◌then◌otherwi
 where_reads w h =
     let n = number_is w h in
     rw (le-leb (length (119 ∷ 104 ∷ 101 ∷ 114 ∷ 101 ∷ 32 ∷ w)) 64 (omega (arith, n.few)), words_digits w n.digits, h)
-
--- the same bytes are equal
-same_is : (w v : List ℕ) → same w v ≡ true → w ≡ v
-unfolding same
-same_is [] [] h = refl
-same_is [] (d ∷ v) h = absurd (false≢true h)
-same_is (c ∷ w) [] h = absurd (false≢true h)
-same_is (c ∷ w) (d ∷ v) h = rw (eqb-true c d (and_left _ _ h), same_is w v (and_right _ _ h))
 
 -- A LINE THAT ASKS FOR A BUCKET
 
@@ -120,7 +117,7 @@ command_where [] h = absurd (false≢true h)
 command_where (w ∷ []) h = absurd (false≢true (sym (neither (same w (text "moves")) Moves Unreadable refl refl) ∙ h))
 command_where (w ∷ a ∷ []) h =
     let both = (tested (same w (text "where") and is_number a) (Where (value a)) h).0 in
-    (a, ap (λ (v : List ℕ). v ∷ a ∷ []) (same_is w (text "where") (and_left _ _ both)), and_right _ _ both)
+    (a, ap (λ (v : List ℕ). v ∷ a ∷ []) ((same_decides w (text "where")).0 (and_left _ _ both)), and_right _ _ both)
 command_where (w ∷ a ∷ b ∷ []) h =
     absurd
     (false≢true
@@ -140,12 +137,26 @@ reads_where l b e =
     let line : l ≡ 119 ∷ 104 ∷ 101 ∷ 114 ∷ 101 ∷ 32 ∷ (found.0 ++ []) = cc in
     record { word = found.0; line = rw append-nil at line; number = found.2 }
 
+-- a test of the word and its blank
+pub starts_where
+    : (l : List ℕ) (i : ℕ) (r : Bool) → i + 6 ≤ length l
+    → r ≡ starts_with eqb (take (length l - i) (drop i l)) (119 ∷ 104 ∷ 101 ∷ 114 ∷ 101 ∷ 32 ∷ [])
+    → r ≡ same (bytes_at l i 6) (text "where ")
+unfolding text
+starts_where l i r w h =
+    let word : List ℕ = 119 ∷ 104 ∷ 101 ∷ 114 ∷ 101 ∷ 32 ∷ [] in
+    let all : take (length l - i) (drop i l) ≡ drop i l = take_all _ (drop i l) (omega (arith, length-drop i l)) in
+    let tested : r ≡ pointwise eqb word (bytes_at l i 6) = rw all at h in
+    let front = slice_eq-Decides Decides-eqb word (bytes_at l i 6) r tested in
+    let whole = same_decides (bytes_at l i 6) word in
+    same_from_decides _ _ (λ e. sym (front.0 e), λ e. front.1 (sym e)) whole
+
 module _ (l : List ℕ) (i : ℕ) (e : same (bytes_at l i 6) (text "where ") ≡ true) where
   line_where : drop i l ≡ 119 ∷ 104 ∷ 101 ∷ 114 ∷ 101 ∷ 32 ∷ drop (i + 6) l
   unfolding text
   line_where =
       sym (take-append-drop 6 (drop i l))
-      ∙ ap (λ (w : List ℕ). w ++ drop 6 (drop i l)) (same_is (bytes_at l i 6) (text "where ") e)
+      ∙ ap (λ (w : List ℕ). w ++ drop 6 (drop i l)) ((same_decides (bytes_at l i 6) (text "where ")).0 e)
       ∙ ap (λ (r : List ℕ). text "where " ++ r) (drop-drop 6 i l)
 
   line : up_to 10 (drop i l) ≡ 119 ∷ 104 ∷ 101 ∷ 114 ∷ 101 ∷ 32 ∷ up_to 10 (drop (i + 6) l)
@@ -153,15 +164,15 @@ module _ (l : List ℕ) (i : ℕ) (e : same (bytes_at l i 6) (text "where ") ≡
   line = ap (up_to 10) line_where
 
   -- a number behind the word and its blank
-  pub asks_for : (r : Asked) → by_asked (DigitsTo l (i + 6)) (NoDigits l (i + 6)) r → by_asked (AsksFor l i) (AsksForNone l i) r
+  pub asks_for : (r : Option Asked) → by_asked (DigitsTo l (i + 6)) (NoDigits l (i + 6)) r → by_asked (AsksFor l i) (AsksForNone l i) r
   unfolding by_asked
-  asks_for (asked.Bucket b end) d =
+  asks_for (Some a) d =
       record {
         within = d.within;
         ends = omega (arith, d.ends, ap length line);
         reads = ap read line ∙ where_reads (up_to 10 (drop (i + 6) l)) d.number ∙ ap Where (sym d.is);
       }
-  asks_for asked.Other d = λ few b is.
+  asks_for None d = λ few b is.
       let a = reads_where (up_to 10 (drop i l)) b is in
       let word : a.word ≡ up_to 10 (drop (i + 6) l) = cc (a.line, line) in
       d (ap is_number (sym word) ∙ a.number)

@@ -6,22 +6,28 @@ use mathlib.Core.List.{List, [], ◌∷◌, ◌++◌}
 use native.Mathlib.Nat.{add-zero, div-eq_of_lt, mod-eq_of_lt, mul-add-div, mul-add-mod_self_left}
 use native.Mathlib.Numerals.{add-one}
 use native.Mathlib.Omega.{arith}
-use lib.ListN.{length, take, drop, get_or}
+use mathlib.Core.Logic.{⊎_elim}
+use lib.ListN.{length, take, drop, get_or, drop_of_length-le}
 use lib.Seq.{drop-cons, drop-drop, take-add}
-use lib.Dec.{eqb}
+use lib.Dec.{leb}
+use Rattle.std.specs.Char.{is_ascii_digit}
 use borrow.Author.Tests.{leb-true}
 use Rattle.model.specs.Basics.{◌and◌}
 use Rattle.model.specs.Decimal.{digits_only, value_from, value}
-use Rattle.model.specs.Console.{text, same}
-use Rattle.model.proofs.Counts.{and_left, and_right, and_both}
-use Rattle.lines.specs.Words.{is_digit, bytes_at}
+use Rattle.model.proofs.Counts.{bit_cases, and_left, and_right, and_both}
+use Rattle.lines.specs.Words.{bytes_at}
 
 -- a byte that is a digit
-pub digit_is : (c : ℕ) → is_digit c ≡ true → (48 ≤ c) × (c ≤ 57)
-unfolding is_digit
+pub digit_is : (c : ℕ) → leb 48 c and leb c 57 ≡ true → (48 ≤ c) × (c ≤ 57)
 digit_is c h = (leb-true _ _ (and_left _ _ h), leb-true _ _ (and_right _ _ h))
 
--- a test and one more
+-- the byte at place i, and those behind it
+pub bytes_next
+    : (l : List ℕ) (i j n : ℕ) → i < length l → j ≡ i + 1 → bytes_at l i (suc n) ≡ get_or l i 0 ∷ bytes_at l j n
+bytes_next l i j n h e = rw (drop-cons l i 0 h, e, add-one i)
+
+-- A TEST OF ALL
+
 both : (a b c : Bool) → a and (b and c) ≡ (a && b) and c
 unfolding ◌and◌
 both true b c = refl
@@ -32,74 +38,31 @@ unfolding ◌and◌
 and_true true = refl
 and_true false = refl
 
-module _ (l : List ℕ) (i j n : ℕ) (h : i < length l) (e : j ≡ i + 1) where
-  -- the byte at place i, and those behind it
-  pub bytes_next : bytes_at l i (suc n) ≡ get_or l i 0 ∷ bytes_at l j n
-  bytes_next = rw (drop-cons l i 0 h, e, add-one i)
+ascii_digit : (c : ℕ) → is_ascii_digit c ≡ leb 48 c and leb c 57
+unfolding ◌and◌
+ascii_digit c = ⊎_elim (λ t. rw t.0) (λ t. rw t.0) (bit_cases (leb 48 c))
 
-  digits_first : digits_only (bytes_at l i (suc n)) ≡ is_digit (get_or l i 0) and digits_only (bytes_at l j n)
-  unfolding digits_only is_digit
-  digits_first = ap digits_only bytes_next
+-- the test of those before place i is `all`
+abbrev pub Passed : List ℕ → ℕ → Bool → Type 0
+Passed l i all = all and digits_only (drop i l) ≡ digits_only l
 
-  digits_next
-      : (a b : Bool) → b ≡ is_digit (get_or l i 0)
-      → a and digits_only (bytes_at l i (suc n)) ≡ (a && b) and digits_only (bytes_at l j n)
-  digits_next a b k = rw (digits_first, k) (both a (is_digit (get_or l i 0)) (digits_only (bytes_at l j n)))
+pub passed_none : (l : List ℕ) → Passed l 0 true
+unfolding ◌and◌
+passed_none l = refl
 
-  same_first : (d : ℕ) (w : List ℕ) → same (bytes_at l i (suc n)) (d ∷ w) ≡ eqb (get_or l i 0) d and same (bytes_at l j n) w
-  unfolding same
-  same_first d w = ap (λ (b : List ℕ). same b (d ∷ w)) bytes_next
-
-  same_next
-      : (a : Bool) (d : ℕ) (w : List ℕ)
-      → a and same (bytes_at l i (suc n)) (d ∷ w) ≡ (a && eqb (get_or l i 0) d) and same (bytes_at l j n) w
-  same_next a d w = rw (same_first d w) (both a (eqb (get_or l i 0) d) (same (bytes_at l j n) w))
-
-none_left : (a : Bool) (l : List ℕ) (i : ℕ) → a and digits_only (bytes_at l i 0) ≡ a
+pub passed_more
+    : (l : List ℕ) (i : ℕ) (all b : Bool) → i < length l → b ≡ is_ascii_digit (get_or l i 0) → Passed l i all
+    → Passed l (i + 1) (all && b)
 unfolding digits_only
-none_left a l i = and_true a
+passed_more l i all b h e p =
+    let rest : drop i l ≡ get_or l i 0 ∷ drop (i + 1) l = rw (drop-cons l i 0 h, add-one i) in
+    sym (both all b (digits_only (drop (i + 1) l)))
+    ∙ rw (e, ascii_digit (get_or l i 0)) (ap (λ (r : List ℕ). all and digits_only r) (sym rest))
+    ∙ p
 
--- eight tests of bytes are one of the eight
-pub eight_only
-    : (l : List ℕ) (i : ℕ) → i + 8 ≤ length l → (b₀ b₁ b₂ b₃ b₄ b₅ b₆ b₇ : Bool)
-    → b₀ ≡ is_digit (get_or l i 0) → b₁ ≡ is_digit (get_or l (i + 1) 0) → b₂ ≡ is_digit (get_or l (i + 2) 0)
-    → b₃ ≡ is_digit (get_or l (i + 3) 0) → b₄ ≡ is_digit (get_or l (i + 4) 0) → b₅ ≡ is_digit (get_or l (i + 5) 0)
-    → b₆ ≡ is_digit (get_or l (i + 6) 0) → b₇ ≡ is_digit (get_or l (i + 7) 0)
-    → ((((((b₀ && b₁) && b₂) && b₃) && b₄) && b₅) && b₆) && b₇ ≡ digits_only (bytes_at l i 8)
-eight_only l i h b₀ b₁ b₂ b₃ b₄ b₅ b₆ b₇ e₀ e₁ e₂ e₃ e₄ e₅ e₆ e₇ =
-    sym
-    (digits_first l i (i + 1) 7 (omega arith) refl
-    ∙ ap (λ b. b and digits_only (bytes_at l (i + 1) 7)) (sym e₀)
-    ∙ digits_next l (i + 1) (i + 2) 6 (omega arith) (omega arith) _ b₁ e₁
-    ∙ digits_next l (i + 2) (i + 3) 5 (omega arith) (omega arith) _ b₂ e₂
-    ∙ digits_next l (i + 3) (i + 4) 4 (omega arith) (omega arith) _ b₃ e₃
-    ∙ digits_next l (i + 4) (i + 5) 3 (omega arith) (omega arith) _ b₄ e₄
-    ∙ digits_next l (i + 5) (i + 6) 2 (omega arith) (omega arith) _ b₅ e₅
-    ∙ digits_next l (i + 6) (i + 7) 1 (omega arith) (omega arith) _ b₆ e₆
-    ∙ digits_next l (i + 7) (i + 8) 0 (omega arith) (omega arith) _ b₇ e₇
-    ∙ none_left _ l (i + 8))
-
-all_same : (a : Bool) (l : List ℕ) (i : ℕ) → a and same (bytes_at l i 0) [] ≡ a
-unfolding same
-all_same a l i = and_true a
-
--- six bytes compared with those of the word and its blank
-pub where_same
-    : (l : List ℕ) (i : ℕ) → i + 6 ≤ length l
-    → ((((eqb (get_or l i 0) 119 && eqb (get_or l (i + 1) 0) 104) && eqb (get_or l (i + 2) 0) 101) && eqb (get_or l (i + 3) 0) 114)
-    && eqb (get_or l (i + 4) 0) 101)
-    && eqb (get_or l (i + 5) 0) 32
-    ≡ same (bytes_at l i 6) (text "where ")
-unfolding text
-where_same l i h =
-    sym
-    (same_first l i (i + 1) 5 (omega arith) refl 119 _
-    ∙ same_next l (i + 1) (i + 2) 4 (omega arith) (omega arith) _ 104 _
-    ∙ same_next l (i + 2) (i + 3) 3 (omega arith) (omega arith) _ 101 _
-    ∙ same_next l (i + 3) (i + 4) 2 (omega arith) (omega arith) _ 114 _
-    ∙ same_next l (i + 4) (i + 5) 1 (omega arith) (omega arith) _ 101 _
-    ∙ same_next l (i + 5) (i + 6) 0 (omega arith) (omega arith) _ 32 _
-    ∙ all_same _ l (i + 6))
+pub passed_all : (l : List ℕ) (i : ℕ) (all : Bool) → length l ≤ i → Passed l i all → all ≡ digits_only l
+unfolding digits_only
+passed_all l i all h p = sym (and_true all) ∙ rw (drop_of_length-le l h) at p
 
 -- EIGHT DIGITS BY FOURS
 
@@ -136,7 +99,7 @@ module _ (l : List ℕ) (i : ℕ) (h : i + 4 ≤ length l) where
   from_four x = rw four_bytes (omega arith)
 
   pub four_at : digits_only (bytes_at l i 4) ≡ true → Four l i
-  unfolding value value_from digits_only is_digit
+  unfolding value value_from digits_only
   four_at t =
       let all = sym (ap digits_only four_bytes) ∙ t in
       let more = and_right _ _ all in

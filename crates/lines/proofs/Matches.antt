@@ -1,64 +1,33 @@
--- Laws of a word compared byte by byte (`same`). Assumes nothing.
-use Prim.Native.Nat.{ℕ, ◌+◌, ◌≤◌, ◌<◌}
-use mathlib.Core.Path.{◌≡◌, refl, ◌∙◌}
-use mathlib.Core.Bool.{true, false}
-use mathlib.Core.Logic.{⊎_elim}
-use mathlib.Core.List.{List, [], ◌∷◌}
-use native.Mathlib.Numerals.{add-one}
-use native.Mathlib.Omega.{arith}
-use lib.ListN.{length, take, drop, get_or, drop_of_length-le}
-use lib.Seq.{drop-cons, length-take-le, get_or-take}
+-- A word compared byte by byte (`same`) is equality. Assumes nothing.
+use Prim.Native.Nat.{ℕ}
+use mathlib.Core.Path.{◌≡◌, refl}
+use mathlib.Core.Bool.{Bool, true, false, ◌&&◌}
+use mathlib.Core.List.{List}
+use lib.Pointwise.{pointwise}
 use lib.Dec.{eqb}
-use borrow.Author.Tests.{eq-eqb, ne_eqb}
+use Rattle.std.specs.Bool.{Decides}
+use Rattle.std.proofs.lemmas.Bool.Decides.{Decides-eqb, same_from_decides}
+use Rattle.std.proofs.lemmas.Slice.Eq.{compares_Decides, slice_eq-Decides}
 use Rattle.model.specs.Basics.{◌and◌}
 use Rattle.model.specs.Console.{same}
-use Rattle.model.proofs.Counts.{bit_cases}
 
--- words of two lengths differ
-pub same_length : (w v : List ℕ) → (length v ≡ length w → ⊥) → same w v ≡ false
-unfolding same ◌and◌
-same_length [] [] h = absurd (h refl)
-same_length [] (d ∷ v) h = refl
-same_length (c ∷ w) [] h = refl
-same_length (c ∷ w) (d ∷ v) h =
-    ⊎_elim (λ t. rw t.0 (same_length w v (λ e. h (omega arith)))) (λ t. rw t.0) (bit_cases (eqb c d))
+both_hold : (a b : Bool) → a and b ≡ (a && b)
+unfolding ◌and◌
+both_hold true b = refl
+both_hold false b = refl
 
--- the first `end` bytes of l are those of v up to place i
-pub record Agrees (l : List ℕ) (end : ℕ) (v : List ℕ) (i : ℕ) : Type 0 where
-  pub sized : length v ≡ end
-  pub within : end ≤ length l
-  pub passed : i ≤ end
-  pub rest : same (take end l) v ≡ same (drop i (take end l)) (drop i v)
+pub same_decides : (w v : List ℕ) → Decides (same w v) (w ≡ v)
+unfolding same
+same_decides w v =
+    compares_Decides same
+    (record {
+      empty = refl;
+      shorter = λ y ys. refl;
+      longer = λ x xs. refl;
+      heads = λ x y xs ys. both_hold (eqb x y) (same xs ys);
+    })
+    w v
 
-pub agrees_start : (l : List ℕ) (end : ℕ) (v : List ℕ) → length v ≡ end → end ≤ length l → Agrees l end v 0
-agrees_start l end v h k = record { sized = h; within = k; passed = omega arith; rest = refl }
-
-module _ {l : List ℕ} {end : ℕ} {v : List ℕ} {i : ℕ} (s : Agrees l end v i) where
-  module _ (h : i < end) where
-    step : same (take end l) v ≡ eqb (get_or l i 0) (get_or v i 0) and same (drop (i + 1) (take end l)) (drop (i + 1) v)
-    unfolding same
-    step =
-        let inside : i < length (take end l) = omega (arith, length-take-le end l s.within) in
-        s.rest
-        ∙ rw (drop-cons (take end l) i 0 inside, drop-cons v i 0 (omega (arith, s.sized)), get_or-take end l i 0 h, add-one i)
-
-    pub agrees_more : get_or l i 0 ≡ get_or v i 0 → Agrees l end v (i + 1)
-    unfolding ◌and◌
-    agrees_more e =
-        record {
-          sized = s.sized;
-          within = s.within;
-          passed = omega arith;
-          rest = step ∙ rw (eq-eqb (get_or l i 0) (get_or v i 0) e);
-        }
-
-    pub agrees_not : (get_or l i 0 ≡ get_or v i 0 → ⊥) → same (take end l) v ≡ false
-    unfolding ◌and◌
-    agrees_not e = step ∙ rw (ne_eqb (get_or l i 0) (get_or v i 0) e)
-
-  pub agrees_end : end ≤ i → same (take end l) v ≡ true
-  unfolding same
-  agrees_end h =
-      let all : length (take end l) ≤ i = omega (arith, length-take-le end l s.within) in
-      let whole : length v ≤ i = omega (arith, s.sized) in
-      s.rest ∙ rw (drop_of_length-le (take end l) all, drop_of_length-le v whole)
+-- `==` of slices
+pub same_is_eq : (w v : List ℕ) (r : Bool) → r ≡ pointwise eqb w v → r ≡ same w v
+same_is_eq w v r h = same_from_decides _ _ (slice_eq-Decides Decides-eqb w v r h) (same_decides w v)

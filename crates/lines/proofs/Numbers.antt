@@ -6,16 +6,17 @@ use mathlib.Core.Logic.{⊎_elim}
 use mathlib.Core.List.{List, [], ◌∷◌}
 use native.Mathlib.Nat.{add-zero}
 use native.Mathlib.Omega.{arith}
-use lib.ListN.{length, drop, get_or}
+use Rattle.std.specs.Prelude.{Some, None}
+use lib.ListN.{length, take, drop, get_or, length-take, length-drop}
+use lib.Seq.{get_or-take, get_or-drop}
 use borrow.Author.Tests.{leb-true, le-leb}
 use Rattle.model.specs.Basics.{if◌then◌otherwise◌, ◌and◌}
 use Rattle.model.specs.Decimal.{digits_only, value_from, value}
 use Rattle.model.specs.Console.{is_number}
 use Rattle.model.proofs.Counts.{bit_cases, and_left, and_right, and_both}
 use Rattle.lines.specs.Words.{up_to, word_at, number_at, bytes_at}
-use Rattle.lines.specs.declared.Parsed.TheVariants.{Number, Other}
 use Rattle.lines.proofs.Bytes.{bytes_next}
-use Rattle.lines.proofs.Spans.{Reached, reached_start, reached_next, reached_end, span_next}
+use Rattle.lines.proofs.Spans.{Reached, reached_start, reached_next, reached_end, span_next, none_at, none_at_end}
 
 -- what makes a word a number
 pub record IsNumber (w : List ℕ) : Type 0 where
@@ -131,6 +132,41 @@ module _ {e : ℕ} {l : List ℕ} {from end v : ℕ} (s : Digits e l from end v)
       : (i : end < length l) → (get_or l end 0 ≡ e → ⊥) → from + 10 ≤ end → is_number (up_to e (drop from l)) ≡ true → ⊥
   too_many i b h t = omega (arith, (number_is _ t).few, s.reached.ends, ap length (next i b))
 
+-- ITEM i OF A PART that begins at place `start`, where the loop goes over the part
+module _
+    {e : ℕ} {l : List ℕ} {from end v : ℕ} (s : Digits e l from end v) (start n i : ℕ) (here : end ≡ start + i)
+    (h : i < length (take n (drop start l)))
+  where
+    abbrev item : ℕ
+    item = get_or (take n (drop start l)) i 0
+
+    pub item_within : end < length l
+    item_within = omega (arith, length-take n (drop start l), length-drop start l)
+
+    pub item_at : get_or l end 0 ≡ item
+    item_at =
+        ap (λ i. get_or l i 0) here
+        ∙ sym (get_or-take n (drop start l) i 0 (omega (arith, length-take n (drop start l))) ∙ get_or-drop start l i 0)
+
+    pub item_more : (item ≡ e → ⊥) → 48 ≤ item → item ≤ 57 → v ≤ 4_294_967_295 → Digits e l from (end + 1) (10 * v + (item - 48))
+    item_more b h k f =
+        subst (λ c. Digits e l from (end + 1) (10 * v + (c - 48))) item_at
+        (digits_more s item_within (λ z. b (sym item_at ∙ z)) (omega (arith, item_at)) (omega (arith, item_at)) f)
+
+    pub item_wrong
+        : (item ≡ e → ⊥) → (48 ≤ item → item ≤ 57 → ⊥) → is_number (up_to e (drop from l)) ≡ true → ⊥
+    item_wrong b h = not_digit s item_within (λ z. b (sym item_at ∙ z)) (λ h' k. h (omega (arith, item_at)) (omega (arith, item_at)))
+
+    pub item_ends : item ≡ e → up_to e (drop end l) ≡ []
+    item_ends h = none_at s.reached item_within (item_at ∙ h)
+
+-- and past its items
+pub items_end
+    : {e : ℕ} {l : List ℕ} {from end v : ℕ} → Digits e l from end v → (start i : ℕ) → end ≡ start + i
+    → length (take (length l - start) (drop start l)) ≤ i → up_to e (drop end l) ≡ []
+items_end {e} {l} s start i here h =
+    none_at_end s.reached (omega (arith, length-take (length l - start) (drop start l), length-drop start l))
+
 -- n digits at once
 pub digits_run
     : {e : ℕ} {l : List ℕ} {from : ℕ} (n end v : ℕ) → Digits e l from end v → end + n ≤ length l → e < 48
@@ -153,26 +189,23 @@ digits_run {e} {l} {from} (suc n) end v s h k d f =
 -- A WORD, up to a blank
 
 -- no number
-not_number : (l : List ℕ) (from : ℕ) → (is_number (word_at l from) ≡ true → ⊥) → number_at l from ≡ Other
+pub not_number : (l : List ℕ) (from : ℕ) → (is_number (word_at l from) ≡ true → ⊥) → None ≡ number_at l from
 unfolding number_at if◌then◌otherwise◌
 not_number l from h = ⊎_elim (λ t. absurd (h t.0)) (λ t. rw t.0) (bit_cases (is_number (word_at l from)))
 
 module _ {l : List ℕ} {from end v : ℕ} (s : Digits 32 l from end v) where
-  pub digits_wrong
-      : end < length l → (get_or l end 0 ≡ 32 → ⊥) → (48 ≤ get_or l end 0 → get_or l end 0 ≤ 57 → ⊥) → number_at l from ≡ Other
-  digits_wrong i b h = not_number l from (not_digit s i b h)
-
-  pub digits_large : 4_294_967_295 < v → number_at l from ≡ Other
+  pub digits_large : 4_294_967_295 < v → None ≡ number_at l from
   digits_large h = not_number l from (too_large s h)
 
   -- at the word's end
   module _ (e : word_at l end ≡ []) where
-    pub digits_empty : end ≡ from → number_at l from ≡ Other
+    pub digits_empty : end ≡ from → None ≡ number_at l from
     digits_empty h = not_number l from (none_there s e h)
 
-    pub digits_many : 10 < end - from → number_at l from ≡ Other
+    pub digits_many : 10 < end - from → None ≡ number_at l from
     digits_many h = not_number l from (λ t. omega (arith, (number_is _ t).few, digits_ended s e))
 
-    pub digits_end : (end ≡ from → ⊥) → end - from ≤ 10 → v ≤ 4_294_967_295 → Number v end ≡ number_at l from
+    pub digits_end
+        : (end ≡ from → ⊥) → end - from ≤ 10 → v ≤ 4_294_967_295 → Some (record { value = v; end = end }) ≡ number_at l from
     unfolding number_at if◌then◌otherwise◌
     digits_end h f k = rw (digits_number s e h f k, digits_value s e, ← digits_ended s e)

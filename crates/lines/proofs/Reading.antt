@@ -1,10 +1,13 @@
 -- What a line says, by its words as they are found. Assumes nothing.
 use Prim.Native.Nat.{ℕ, ◌+◌, ◌≤◌, ◌<◌}
 use mathlib.Core.Path.{◌≡◌, refl, sym, ◌∙◌, ap}
-use mathlib.Core.Bool.{true, false}
+use mathlib.Core.Bool.{Bool, true, false}
 use mathlib.Core.Logic.{⊎_elim}
 use mathlib.Core.List.{List, [], ◌∷◌}
 use native.Mathlib.Omega.{arith}
+use Rattle.std.specs.Prelude.{Some, None, unwrap_or}
+use Rattle.std.specs.Bool.{then_some}
+use Rattle.std.proofs.lemmas.Option.{none-some}
 use lib.ListN.{length, take, drop, length-drop}
 use borrow.Author.Tests.{le-leb, lt-leb}
 use Rattle.model.specs.Basics.{if◌then◌otherwise◌, ◌and◌}
@@ -13,17 +16,17 @@ use Rattle.model.specs.Console.{text, words_of, same, is_number, command, read}
 use Rattle.model.specs.declared.command.Command.TheVariants.{Where, Moves, Unreadable}
 use Rattle.model.proofs.Counts.{bit_cases}
 use Rattle.lines.specs.Words.{word_at, number_at, with_two}
-use Rattle.lines.specs.declared.Parsed.TheVariants.{Number, Other}
+use Rattle.lines.specs.declared.Parsed.{Parsed}
 use Rattle.lines.proofs.Spans.{span_first, span_within}
 use Rattle.lines.proofs.Words.{behind, words_split, words_last, words_more}
 
 -- THE ANSWERS OF `number`
 
-not_read : (l : List ℕ) (i : ℕ) → number_at l i ≡ Other → is_number (word_at l i) ≡ false
+not_read : (l : List ℕ) (i : ℕ) → number_at l i ≡ None → is_number (word_at l i) ≡ false
 unfolding number_at if◌then◌otherwise◌
 not_read l i =
     ⊎_elim
-    (λ t. rw t.0 (λ h. let z : ◌≡◌ {A = ℕ} 0 1 = cc in absurd (omega arith)))
+    (λ t. rw t.0 (λ h. absurd (none-some _ (sym h))))
     (λ t h. t.0)
     (bit_cases (is_number (word_at l i)))
 
@@ -34,21 +37,22 @@ pub record NumberAt (l : List ℕ) (i v end : ℕ) : Type 0 where
   pub ends : end ≡ i + length (word_at l i)
   pub within : end ≤ length l
 
-was_read : (l : List ℕ) (i v end : ℕ) → i ≤ length l → number_at l i ≡ Number v end → NumberAt l i v end
+was_read : (l : List ℕ) (i v end : ℕ) → i ≤ length l → number_at l i ≡ Some (record { value = v; end = end }) → NumberAt l i v end
 unfolding number_at if◌then◌otherwise◌
 was_read l i v end w =
     ⊎_elim
     (λ t.
     rw t.0
     (λ h.
-    let ends : end ≡ i + length (word_at l i) = cc in
+    let same : ◌≡◌ {A = Parsed} (record { value = value (word_at l i); end = i + length (word_at l i) }) (record { value = v; end = end }) = cc in
+    let ends : end ≡ i + length (word_at l i) = sym (ap (λ (p : Parsed). p.end) same) in
     record {
       is = t.0;
-      reads = cc;
+      reads = sym (ap (λ (p : Parsed). p.value) same);
       ends = ends;
       within = omega (arith, span_within 32 (drop i l), length-drop i l);
     }))
-    (λ t. rw t.0 (λ h. let z : ◌≡◌ {A = ℕ} 0 1 = cc in absurd (omega arith)))
+    (λ t. rw t.0 (λ h. absurd (none-some _ h)))
     (bit_cases (is_number (word_at l i)))
 
 -- A LINE'S PARTS, AS THEY ARE FOUND
@@ -71,19 +75,19 @@ pub record Third (l : List ℕ) (end a second b third : ℕ) : Type 0 where
   pub more : second < length l
   pub number : NumberAt l (second + 1) b third
 
-pub first : (l : List ℕ) (end : ℕ) → length l ≤ 64 → end ≡ length (word_at l 0) → First l end
-first l end s e = record { short = s; ends = e; within = omega (arith, span_within 32 l) }
+pub first : (l : List ℕ) (end : ℕ) → length l ≤ 64 → end ≡ 0 + length (word_at l 0) → First l end
+first l end s e = record { short = s; ends = omega arith; within = omega (arith, span_within 32 l) }
 
 pub second
     : {l : List ℕ} {end : ℕ} → First l end → (end ≡ length l → ⊥) → (a next : ℕ)
-    → number_at l (end + 1) ≡ Number a next → Second l end a next
+    → number_at l (end + 1) ≡ Some (record { value = a; end = next }) → Second l end a next
 second {l} {end} f n a next h =
     let more : end < length l = omega (arith, f.within) in
     record { first = f; more = more; number = was_read l (end + 1) a next (omega arith) h }
 
 pub third
     : {l : List ℕ} {end a next : ℕ} → Second l end a next → (next ≡ length l → ⊥) → (b last : ℕ)
-    → number_at l (next + 1) ≡ Number b last → Third l end a next b last
+    → number_at l (next + 1) ≡ Some (record { value = b; end = last }) → Third l end a next b last
 third {l} {end} {a} {next} s n b last h =
     let more : next < length l = omega (arith, s.number.within) in
     record { seconds = s; more = more; number = was_read l (next + 1) b last (omega arith) h }
@@ -122,13 +126,10 @@ module _ {l : List ℕ} {end : ℕ} (f : First l end) where
         words_last l 0 end (omega arith) (omega (arith, f.ends)) e
         ∙ ap (λ (w : List ℕ). w ∷ []) first_word
 
-    pub read_moves : same (take end l) (text "moves") ≡ true → Moves ≡ read l
+    pub read_moves : (b : Bool) → b ≡ same (take end l) (text "moves") → unwrap_or (then_some b Moves) Unreadable ≡ read l
     unfolding command if◌then◌otherwise◌
-    read_moves h = sym (read_words ∙ ap command one ∙ rw h)
-
-    pub read_alone : same (take end l) (text "moves") ≡ false → Unreadable ≡ read l
-    unfolding command if◌then◌otherwise◌
-    read_alone h = sym (read_words ∙ ap command one ∙ rw h)
+    read_moves true h = sym (read_words ∙ ap command one ∙ rw (sym h))
+    read_moves false h = sym (read_words ∙ ap command one ∙ rw (sym h))
 
   -- and more
   several : end < length l → read l ≡ command (take end l ∷ words_of (drop (end + 1) l))
@@ -138,7 +139,7 @@ module _ {l : List ℕ} {end : ℕ} (f : First l end) where
       (words_more l 0 end (omega arith) (omega (arith, f.ends)) h
       ∙ ap (λ (w : List ℕ). w ∷ words_of (drop (end + 1) l)) first_word)
 
-  pub read_no_second : (end ≡ length l → ⊥) → number_at l (end + 1) ≡ Other → Unreadable ≡ read l
+  pub read_no_second : (end ≡ length l → ⊥) → number_at l (end + 1) ≡ None → Unreadable ≡ read l
   read_no_second n h =
       sym
       (several (omega (arith, f.within))
@@ -154,13 +155,10 @@ module _ {l : List ℕ} {end a second : ℕ} (s : Second l end a second) where
         ∙ ap (λ (ws : List (List ℕ)). command (take end l ∷ ws))
         (words_last l (end + 1) second (omega (arith, s.more)) s.number.ends e)
 
-    pub read_where : same (take end l) (text "where") ≡ true → Where a ≡ read l
+    pub read_where : (b : Bool) → b ≡ same (take end l) (text "where") → unwrap_or (then_some b (Where a)) Unreadable ≡ read l
     unfolding command if◌then◌otherwise◌ ◌and◌
-    read_where h = sym (two ∙ rw (h, s.number.is, ← s.number.reads))
-
-    pub read_one : same (take end l) (text "where") ≡ false → Unreadable ≡ read l
-    unfolding command if◌then◌otherwise◌ ◌and◌
-    read_one h = sym (two ∙ rw h)
+    read_where true h = sym (two ∙ rw (sym h, s.number.is, ← s.number.reads))
+    read_where false h = sym (two ∙ rw (sym h))
 
   -- and more
   further : second < length l → read l ≡ command (take end l ∷ word_at l (end + 1) ∷ words_of (drop (second + 1) l))
@@ -169,7 +167,7 @@ module _ {l : List ℕ} {end a second : ℕ} (s : Second l end a second) where
       ∙ ap (λ (ws : List (List ℕ)). command (take end l ∷ ws))
       (words_more l (end + 1) second (omega (arith, s.more)) s.number.ends h)
 
-  pub read_no_third : (second ≡ length l → ⊥) → number_at l (second + 1) ≡ Other → Unreadable ≡ read l
+  pub read_no_third : (second ≡ length l → ⊥) → number_at l (second + 1) ≡ None → Unreadable ≡ read l
   read_no_third n h =
       sym
       (further (omega (arith, s.number.within))

@@ -1,14 +1,12 @@
 -- Where lines and words end, and the parts of a line as the functions of this crate read them. Assumes nothing.
-use Rattle.std.specs.Prelude.{ℕ, ◌+◌, ◌<◌, ◌≤◌, ◌≡◌, Bool, true, List, [], ◌∷◌, length, take, drop, eqb, leb}
-use Rattle.model.specs.Basics.{if◌then◌otherwise◌, ◌and◌}
+use Rattle.std.specs.Prelude.{ℕ, ◌+◌, ◌<◌, ◌≤◌, ◌≡◌, true, List, [], ◌∷◌, length, take, drop, eqb, Option, Some, None}
+use Rattle.model.specs.Basics.{if◌then◌otherwise◌}
 use Rattle.model.specs.Decimal.{value}
 use Rattle.model.specs.Console.{text, same, is_number, read}
 use Rattle.model.specs.declared.command.Command.{Command}
 use Rattle.model.specs.declared.command.Command.TheVariants.{Fresh, Grow, Where, At, Unreadable}
 use Rattle.lines.specs.declared.asked.Asked.{Asked}
-use Rattle.lines.specs.declared.asked.Asked.TheVariants as asked
 use Rattle.lines.specs.declared.Parsed.{Parsed}
-use Rattle.lines.specs.declared.Parsed.TheVariants.{Number, Other}
 
 -- the bytes before the first e; all where there is none
 unfoldable pub up_to : ℕ → List ℕ → List ℕ
@@ -24,8 +22,10 @@ abbrev pub word_at : List ℕ → ℕ → List ℕ
 word_at l i = up_to 32 (drop i l)
 
 -- the number at place i and where it ends
-unfoldable pub number_at : List ℕ → ℕ → Parsed
-number_at l i = if is_number (word_at l i) then Number (value (word_at l i)) (i + length (word_at l i)) otherwise Other
+unfoldable pub number_at : List ℕ → ℕ → Option Parsed
+number_at l i =
+    if is_number (word_at l i) then Some (record { value = value (word_at l i); end = i + length (word_at l i) })
+    otherwise None
 
 -- what the word w says before two numbers
 unfoldable pub with_two : List ℕ → ℕ → ℕ → Command
@@ -36,9 +36,6 @@ with_two w a b =
     otherwise Unreadable
 
 -- A LINE READ WHERE IT STANDS
-
-unfoldable pub is_digit : ℕ → Bool
-is_digit c = leb 48 c and leb c 57
 
 -- n bytes from place i on
 abbrev pub bytes_at : List ℕ → ℕ → ℕ → List ℕ
@@ -66,6 +63,6 @@ abbrev pub AsksForNone : List ℕ → ℕ → Type 0
 AsksForNone l i = i + 17 ≤ length l → (b : ℕ) → read (up_to_feed (drop i l)) ≡ Where b → ⊥
 
 -- what holds of a bucket and a place, and what holds where there is none
-unfoldable pub by_asked : (ℕ → ℕ → Type 0) → Type 0 → Asked → Type 0
-by_asked p none (asked.Bucket b end) = p b end
-by_asked p none asked.Other = none
+unfoldable pub by_asked : (ℕ → ℕ → Type 0) → Type 0 → Option Asked → Type 0
+by_asked p none (Some a) = p a.bucket a.end
+by_asked p none None = none

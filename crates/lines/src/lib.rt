@@ -3,17 +3,28 @@
 
 pub mod asked;
 
-ghost use Rattle.std.specs.Prelude.{◌+◌, ◌≤◌, ◌≡◌, length, take, drop};
+ghost use Rattle.std.specs.Prelude.{◌+◌, ◌≤◌, ◌≡◌, length, drop, unwrap_or};
 ghost use Rattle.model.specs.Console.{same, read as read_of};
-ghost use Rattle.lines.specs.Words.{up_to_feed, word_at, number_at, with_two};
+ghost use Rattle.lines.specs.Words.{up_to, up_to_feed, number_at, with_two};
 
 use model::command::Command;
 
-// The number at a place of a line, and the place of the blank behind it, or the line's length; or no number.
+// A number of a line, and the place of the blank behind it, or the line's length.
 #[derive(Clone, Copy)]
-enum Parsed {
-    Number { value: u32, end: usize },
-    Other,
+struct Parsed {
+    value: u32,
+    end: usize,
+}
+
+// The place of the next byte `e` of a text from a place on, or the text's length.
+fn place_of(text: &[u8], from: usize, e: u8) -> usize
+    requires { from ≤ length text.now }
+    ensures { result ≡ from + length (up_to e (drop from text.now)) }
+{
+    match text[from..].iter().position(|c| *c == e) {
+        Some(n) => from + n,
+        None => text.len(),
+    }
 }
 
 // The place of the next line feed of a block from a place on, or the block's length.
@@ -21,111 +32,92 @@ pub fn feed_at(block: &[u8], from: usize) -> usize
     requires { from ≤ length block.now }
     ensures { result ≡ from + length (up_to_feed (drop from block.now)) }
 {
-    let mut at = from;
-    while at < block.len() {
-        if block[at] == b'\n' {
-            return at;
-        }
-        at += 1;
-    }
-    at
+    place_of(block, from, b'\n')
 }
 
-// The end of a line's first word.
-fn word_end(line: &[u8]) -> usize
-    ensures { result ≡ length (word_at line.now 0) }
+// Whether a word is a command's.
+fn is_word(word: &[u8], name: &[u8]) -> bool
+    ensures { result ≡ same word.now name.now }
 {
-    let mut end = 0;
-    while end < line.len() {
-        if line[end] == b' ' {
-            return end;
-        }
-        end += 1;
-    }
-    end
-}
-
-// Whether the first `end` bytes of a line are the word.
-fn is_word(line: &[u8], end: usize, word: &[u8]) -> bool
-    requires { end ≤ length line.now }
-    ensures { result ≡ same (take end line.now) word.now }
-{
-    if word.len() != end {
-        return false;
-    }
-    let mut i = 0;
-    while i < end {
-        if line[i] != word[i] {
-            return false;
-        }
-        i += 1;
-    }
-    true
+    word == name
 }
 
 // The number at a place of a line. A value above the limit takes no further digit, so that it fits.
-fn number(line: &[u8], from: usize) -> Parsed
+fn number(line: &[u8], from: usize) -> Option<Parsed>
     requires { from ≤ length line.now }
     ensures { result ≡ number_at line.now from }
 {
     let mut value: u64 = 0;
     let mut end = from;
-    while end < line.len() {
-        let c = line[end];
-        if c == b' ' {
+    for c in &line[from..] {
+        if *c == b' ' {
             break;
         }
-        if c < b'0' {
-            return Parsed::Other;
-        }
-        if b'9' < c {
-            return Parsed::Other;
+        if !c.is_ascii_digit() {
+            return None;
         }
         if 4_294_967_295 < value {
-            return Parsed::Other;
+            return None;
         }
-        value = 10 * value + (c - b'0') as u64;
+        value = 10 * value + u64::from(*c - b'0');
         end += 1;
     }
     if end == from {
-        return Parsed::Other;
+        return None;
     }
     if 10 < end - from {
-        return Parsed::Other;
+        return None;
     }
-    if value <= 4_294_967_295 {
-        return Parsed::Number {
-            value: value as u32,
-            end,
-        };
-    }
-    Parsed::Other
+    let value = u32::try_from(value).ok()?;
+    Some(Parsed { value, end })
 }
 
-// A line of a word, the first `end` bytes, and two numbers.
-fn with_two(line: &[u8], end: usize, a: u32, b: u32) -> Command
-    requires { end ≤ length line.now }
-    ensures { result ≡ with_two (take end line.now) a b }
+// A line of a word and two numbers.
+fn with_two(word: &[u8], a: u32, b: u32) -> Command
+    ensures { result ≡ with_two word.now a b }
 {
-    if is_word(line, end, b"fresh") {
+    if is_word(word, b"fresh") {
         return Command::Fresh {
             buckets: a,
             bins: b,
         };
     }
-    if is_word(line, end, b"grow") {
+    if is_word(word, b"grow") {
         return Command::Grow {
             buckets: a,
             bins: b,
         };
     }
-    if is_word(line, end, b"at") {
+    if is_word(word, b"at") {
         return Command::At {
             bin: a,
             position: b,
         };
     }
     Command::Unreadable
+}
+
+// What a line says that is not too long, if it is readable.
+fn read_words(line: &[u8]) -> Option<Command>
+    requires { length line.now ≤ 64 }
+    ensures { unwrap_or result Command.Unreadable ≡ read_of line.now }
+{
+    let end = place_of(line, 0, b' ');
+    let word = &line[..end];
+    if end == line.len() {
+        return is_word(word, b"moves").then_some(Command::Moves);
+    }
+    let first = number(line, end + 1)?;
+    if first.end == line.len() {
+        return is_word(word, b"where").then_some(Command::Where {
+            bucket: first.value,
+        });
+    }
+    let second = number(line, first.end + 1)?;
+    if second.end < line.len() {
+        return None;
+    }
+    Some(with_two(word, first.value, second.value))
 }
 
 // What a line says.
@@ -135,35 +127,5 @@ pub fn read(line: &[u8]) -> Command
     if 64 < line.len() {
         return Command::Unreadable;
     }
-    let end = word_end(line);
-    if end == line.len() {
-        if is_word(line, end, b"moves") {
-            return Command::Moves;
-        }
-        return Command::Unreadable;
-    }
-    let Parsed::Number {
-        value: a,
-        end: second,
-    } = number(line, end + 1)
-    else {
-        return Command::Unreadable;
-    };
-    if second == line.len() {
-        if is_word(line, end, b"where") {
-            return Command::Where { bucket: a };
-        }
-        return Command::Unreadable;
-    }
-    let Parsed::Number {
-        value: b,
-        end: third,
-    } = number(line, second + 1)
-    else {
-        return Command::Unreadable;
-    };
-    if third < line.len() {
-        return Command::Unreadable;
-    }
-    with_two(line, end, a, b)
+    read_words(line).unwrap_or(Command::Unreadable)
 }

@@ -1,16 +1,17 @@
 -- Laws of finding in a formed table: a bin's block and size, and the search for a rank. Assumes nothing.
-use Prim.Native.Nat.{ℕ, suc, ◌+◌, ◌-◌, ◌*◌, ◌/◌, ◌%◌, ◌^◌, ◌≤◌, ◌<◌}
+use Prim.Native.Nat.{ℕ, suc, ◌+◌, ◌-◌, ◌*◌, ◌/◌, ◌%◌, ◌≤◌, ◌<◌}
 use mathlib.Core.Path.{◌≡◌, refl, ap, sym, ◌∙◌}
 use mathlib.Core.Logic.{⊎_elim}
 use mathlib.Core.Bool.{true, false}
-use mathlib.Core.List.{List}
-use native.Mathlib.Nat.{mul-le-mul}
+use mathlib.Core.List.{List, ◌∷◌}
 use native.Mathlib.Numerals.{add-one}
 use native.Mathlib.Omega.{arith}
-use lib.ListN.{length, get_or, take, drop}
-use lib.Seq.{drop-cons, length-take-le, get_or-take}
-use lib.ListN.{drop_of_length-le}
-use borrow.Author.Tests.{lt-ltb, le-ltb, le-leb, lt-leb}
+use lib.ListN.{length, get_or, take}
+use borrow.Author.Tests.{lt-ltb, le-ltb, le-leb, lt-leb, ltb-false}
+use Rattle.std.proofs.Common.{ltb, cond, not, unwrap_or, position}
+use Rattle.std.specs.List.{position_or_len}
+use Rattle.std.proofs.lemmas.List.Sums.{prefix_len-le-length}
+use Rattle.std.proofs.lemmas.List.Recursion.{is_position_or_len}
 use Rattle.model.specs.Basics.{if◌then◌otherwise◌, from, before}
 use Rattle.model.specs.Limits.{label}
 use Rattle.model.specs.Table.{Shape, Table, first_bin, Arrays, bins, shape, table}
@@ -20,7 +21,7 @@ use Rattle.model.specs.Refusal.{first, bin_past, labelled}
 use Rattle.model.specs.Sound.{Formed}
 use Rattle.model.specs.Calls.{answer, bin_size_answer, bin_size_tests, find_answer, find_tests}
 use Rattle.model.specs.declared.table.Header.{Header}
-use Rattle.model.specs.declared.search.Holder.TheVariants.{In, Nothing}
+use Rattle.std.specs.Prelude.{Some, None}
 use Rattle.model.proofs.Counts.{bit_cases}
 use Rattle.model.proofs.Dues.{due_more, due_less}
 use Rattle.model.proofs.Intervals.{before_mono}
@@ -28,54 +29,24 @@ use Rattle.model.proofs.Places.{size_due_lem}
 use Rattle.model.proofs.Finds.{entry, Including, includes_holds, includes_true, holder_in, found_in}
 use Rattle.model.proofs.Places.{bin_block, bin_within}
 use Rattle.model.proofs.Searches.{bin_searched, found_whole}
-use Rattle.model.proofs.Rules.{before_next, before_some}
-use Rattle.model.proofs.Wells.{bins_last}
+use Rattle.model.proofs.Rules.{before_next}
 use Rattle.lookup.proofs.Searches.{first_kept, bins_kept}
 
--- THE BLOCK OF A BIN, from block i on
+-- THE BLOCK OF A BIN
 
-block_past : (xs : List ℕ) (i y : ℕ) → length xs ≤ i → block_of_bin (drop i xs) y ≡ 0
+block_next : (y top : ℕ) (rest : List ℕ) → block_of_bin (top ∷ rest) y ≡ cond (ltb y top) 0 (1 + block_of_bin rest y)
+unfolding block_of_bin if◌then◌otherwise◌
+block_next y top rest = ⊎_elim (λ t. rw t.0) (λ t. rw t.0 (omega arith)) (bit_cases (ltb y top))
+
+-- the first top past the bin, or how many tops there are
+pub block_first : (tops : List ℕ) (y : ℕ) → unwrap_or (position (ltb y) tops) (length tops) ≡ block_of_bin tops y
 unfolding block_of_bin
-block_past xs i y l = rw (drop_of_length-le xs l)
-
-block_here : (xs : List ℕ) (i y : ℕ) → i < length xs → y < get_or xs i 0 → block_of_bin (drop i xs) y ≡ 0
-unfolding block_of_bin if◌then◌otherwise◌
-block_here xs i y l k = rw (drop-cons xs i 0 l, lt-ltb y (get_or xs i 0) k)
-
-block_next
-    : (xs : List ℕ) (i y : ℕ) → i < length xs → get_or xs i 0 ≤ y → block_of_bin (drop i xs) y ≡ suc (block_of_bin (drop (i + 1) xs) y)
-unfolding block_of_bin if◌then◌otherwise◌
-block_next xs i y l k = rw (drop-cons xs i 0 l, le-ltb y (get_or xs i 0) k, add-one i)
-
--- the blocks before i all end at or before bin y
-abbrev pub Passed : List ℕ → ℕ → ℕ → ℕ → Type 0
-Passed tops count y i = (i ≤ count) × (block_of_bin (take count tops) y ≡ i + block_of_bin (drop i (take count tops)) y)
-
-module _ (tops : List ℕ) (count y : ℕ) (l : count ≤ length tops) where
-  pub passed_none : Passed tops count y 0
-  passed_none = (omega arith, omega arith)
-
-  pub passed_found : (i : ℕ) → Passed tops count y i → i < count → y < get_or tops i 0 → i ≡ block_of_bin (take count tops) y
-  passed_found i p k h =
-      omega (
-        arith,
-        block_here (take count tops) i y (omega (arith, length-take-le count tops l))
-            (rw (get_or-take count tops i 0 k) h),
-      )
-
-  pub passed_more : (i : ℕ) → Passed tops count y i → i < count → get_or tops i 0 ≤ y → Passed tops count y (i + 1)
-  passed_more i p k h = (
-    omega arith,
-    omega (
-      arith,
-      block_next (take count tops) i y (omega (arith, length-take-le count tops l))
-          (rw (get_or-take count tops i 0 k) h),
-    ),
-  )
-
-  pub passed_all : (i : ℕ) → Passed tops count y i → count ≤ i → i ≡ block_of_bin (take count tops) y
-  passed_all i p k =
-      omega (arith, block_past (take count tops) i y (omega (arith, length-take-le count tops l)))
+block_first tops y =
+    let same = is_position_or_len (λ l. block_of_bin l y) (ltb y) refl (block_next y) tops in
+    ⊎_elim
+    (λ t. rw t.0 (sym same))
+    (λ t. rw t.0 (omega (arith, same, ltb-false _ _ t.0, prefix_len-le-length (λ x. not (ltb y x)) tops)))
+    (bit_cases (ltb (position_or_len (ltb y) tops) (length tops)))
 
 -- THE SEARCH FOR A RANK, from interval i on
 
@@ -92,7 +63,7 @@ module _ (a : Arrays) (count j r : ℕ) where
   searching_starts = (omega arith, refl, ap (λ n. holder (from (entry a) 0 n) 0 0 j r) (omega arith))
 
   pub searching_ends
-      : (i start : ℕ) → Searching i start → count ≤ i → Nothing ≡ holder (from (entry a) 0 count) 0 0 j r
+      : (i start : ℕ) → Searching i start → count ≤ i → None ≡ holder (from (entry a) 0 count) 0 0 j r
   unfolding holder from
   searching_ends i start s l =
       let none : count - i ≡ 0 = omega arith in
@@ -101,7 +72,7 @@ module _ (a : Arrays) (count j r : ℕ) where
   pub searching_found
       : (i start : ℕ) → Searching i start → i < count → get_or a.blocks i 0 ≡ j
       → start ≤ r + get_or a.adjustments i 0 → r + get_or a.adjustments i 0 < get_or a.ends i 0
-      → In i ≡ holder (from (entry a) 0 count) 0 0 j r
+      → Some i ≡ holder (from (entry a) 0 count) 0 0 j r
   unfolding holder from if◌then◌otherwise◌
   searching_found i start s l b c d =
       let more : count - i ≡ suc (count - suc i) = omega arith in
@@ -129,15 +100,6 @@ module _ (a : Arrays) (count j r : ℕ) where
       )
 
 -- THE SIZE OF A BIN, where n is the number of bins
-
-pub bins_some : (h : Header) (a : Arrays) → Formed h a → (n : ℕ) → n ≡ bins (table h a) → 1 ≤ n
-bins_some h a s n e =
-    omega (
-      arith,
-      bins_last h a s,
-      before_some a.tops h.block_count s.some_blocks,
-      s.tops_rise (h.block_count - 1) (omega (arith, s.some_blocks)),
-    )
 
 pub size_past
     : (h : Header) (a : Arrays) (n y : ℕ) → n ≡ bins (table h a) → n ≤ y
@@ -170,11 +132,6 @@ module _ (h : Header) (a : Arrays) (s : Formed h a) (n y : ℕ) (e : n ≡ bins 
   size_less k = size_answer (h.buckets / n) (sym (ap (λ s. due s y) shape_table ∙ due_less (sized h.buckets n) y k))
 
 -- THE BUCKET AT A PLACE
-
--- a rank of 32-bit numbers, and one of them more, fit 64 bits
-pub rank_fits : (p d m : ℕ) → p < 2 ^ 32 → d < 2 ^ 32 → m < 2 ^ 32 → p * d + m + 2 ^ 32 ≤ 2 ^ 64
-rank_fits p d m l k n =
-    omega (arith, mul-le-mul {n₁ = p} {m₁ = d} {n₂ = 4_294_967_295} {m₂ = 4_294_967_295} (omega arith) (omega arith))
 
 -- the bucket of a rank that an interval includes is below B
 pub bucket_below
@@ -221,13 +178,13 @@ module _
       answer_here = rw (← g, ← e, le-ltb (p + label) label (omega arith))
 
       pub find_nothing
-          : holder (table h a).intervals 0 0 block rank ≡ Nothing
+          : holder (table h a).intervals 0 0 block rank ≡ None
           → record { refusal = 7; bucket = 0 } ≡ found_at (table h a) y (p + label)
       unfolding found_of
       find_nothing n = sym (ap (found_of (table h a) rank) n) ∙ answer_here
 
       pub find_in
-          : (i : ℕ) → holder (table h a).intervals 0 0 block rank ≡ In i
+          : (i : ℕ) → holder (table h a).intervals 0 0 block rank ≡ Some i
           → record { refusal = 0; bucket = rank + get_or a.adjustments i 0 } ≡ found_at (table h a) y (p + label)
       find_in i n =
           sym (found_in h a rank i (holder_in h a block rank i n).0) ∙ sym (ap (found_of (table h a) rank) n) ∙ answer_here

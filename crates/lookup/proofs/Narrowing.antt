@@ -1,15 +1,16 @@
 -- Laws of the search for a bucket's interval: what a turn of it leaves. Assumes nothing.
-use Prim.Native.Nat.{ℕ, ◌+◌, ◌-◌, ◌*◌, ◌≤◌, ◌<◌}
-use mathlib.Core.Path.{◌≡◌}
+use Prim.Native.Nat.{ℕ, zero, suc, ◌+◌, ◌-◌, ◌*◌, ◌≤◌, ◌<◌}
+use mathlib.Core.Path.{◌≡◌, refl}
 use mathlib.Core.List.{List}
 use mathlib.Core.Logic.{◌⊎◌, ⊎_elim}
 use native.Mathlib.Nat.{zero-add}
 use native.Mathlib.Omega.{arith}
-use lib.ListN.{get_or}
+use lib.ListN.{length, get_or, take}
+use lib.Seq.{length-take-le, get_or-take}
 use Rattle.model.specs.Basics.{before}
 use Rattle.model.proofs.Intervals.{Rising, before_mono}
 use Rattle.model.proofs.Rules.{before_next, before_some}
-use Rattle.lookup.specs.Search.{Among}
+use Rattle.lookup.specs.Search.{Among, Ends}
 
 -- what a comparison of the bucket with an end answers
 abbrev pub Past : ℕ → ℕ → ℕ → Type 0
@@ -23,6 +24,41 @@ pub among_all : (ends : List ℕ) (k bucket : ℕ) → 1 ≤ k → bucket < befo
 unfolding before
 among_all ends k bucket h l =
     record { some = h; within = omega arith; from = omega arith; to = rw (zero-add k) l }
+
+-- the first k ends, as a list of their own
+module _ (ends : List ℕ) (k : ℕ) (long : k ≤ length ends) where
+  before_taken : (i : ℕ) → i ≤ k → before (take k ends) i ≡ before ends i
+  unfolding before
+  before_taken zero l = refl
+  before_taken (suc i) l = get_or-take k ends i 0 l
+
+  pub ends_taken : Rising ends k → Ends (take k ends) (length (take k ends))
+  ends_taken rise =
+      rw (length-take-le k ends long)
+      (record {
+        long = omega (arith, length-take-le k ends long);
+        rise = λ i l. rw (before_taken i (omega arith), get_or-take k ends i 0 l) (rise i l);
+      })
+
+  pub among_taken : {bucket low count : ℕ} → Among ends k bucket low count → Among (take k ends) k bucket low count
+  among_taken {bucket} {low} {count} s =
+      record {
+        some = s.some;
+        within = s.within;
+        from = omega (arith, s.from, before_taken low (omega (arith, s.within)));
+        to = omega (arith, s.to, before_taken (low + count) (omega (arith, s.within)));
+      }
+
+  pub among_kept
+      : {bucket low count : ℕ} → Among (take k ends) (length (take k ends)) bucket low count → Among ends k bucket low count
+  among_kept {bucket} {low} {count} s =
+      let all = length-take-le k ends long in
+      record {
+        some = s.some;
+        within = omega (arith, s.within, all);
+        from = omega (arith, s.from, s.within, all, before_taken low (omega (arith, s.within, all)));
+        to = omega (arith, s.to, before_taken (low + count) (omega (arith, s.within, all)));
+      }
 
 module _ {ends : List ℕ} {k bucket low count : ℕ} (rise : Rising ends k) (s : Among ends k bucket low count) where
   -- fewer, from a place not past the bucket on, that reach past some end after the bucket

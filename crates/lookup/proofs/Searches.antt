@@ -14,11 +14,11 @@ use Rattle.model.specs.Search.{interval_at, index_of, located, place_of, place_a
 use Rattle.model.specs.Refusal.{adjustment_of, bucket_past}
 use Rattle.model.specs.Sound.{Formed}
 use Rattle.model.specs.declared.table.Header.{Header}
-use Rattle.model.specs.declared.search.Located.TheVariants.{At, Outside}
+use Rattle.std.specs.Prelude.{Some, None}
+use Rattle.model.specs.declared.search.Located.{Located}
 use Rattle.model.proofs.Counts.{below_or}
 use Rattle.model.proofs.Intervals.{before_mono, rank_at_lem, held_others}
 use Rattle.model.proofs.Ranks.{interval_of_lem}
-use Rattle.lookup.specs.Search.{Locatable}
 use Rattle.model.proofs.Finds.{entry}
 use Rattle.model.proofs.Tables.{get_d_from}
 
@@ -50,11 +50,11 @@ module _ (h : Header) (a : Arrays) (s : Formed h a) where
 
   pub located_at
       : (i x : ℕ) → i < h.interval_count → before a.ends i ≤ x → x < get_or a.ends i 0 → x < h.buckets
-      → located (table h a) x ≡ At i (x - get_or a.adjustments i 0)
+      → located (table h a) x ≡ Some (record { interval = i; rank = x - get_or a.adjustments i 0 })
   unfolding located bucket_past if◌then◌otherwise◌ table before
   located_at i x l b e inside =
       rw (lt-leb h.buckets x inside)
-      (ap₂ At
+      (ap₂ (λ i r. Some (record { interval = i; rank = r }))
       (index_from
       (λ i. interval (get_or a.ends i 0) (get_or a.blocks i 0) (get_or a.adjustments i 0))
       h.interval_count 0 i x l
@@ -64,18 +64,7 @@ module _ (h : Header) (a : Arrays) (s : Formed h a) where
       (rw (zero-add i) e))
       (rank_at_lem h a s.ends_rise i x l b e))
 
--- a formed table as the search reads it
-pub formed_locatable : (h : Header) (a : Arrays) → Formed h a → Locatable h a.ends a.adjustments
-formed_locatable h a s =
-    record {
-      some = s.some_intervals;
-      rising = record { long = s.ends_long; rise = s.ends_rise };
-      last = s.last_end;
-      long = s.adjustments_long;
-      below = adjustment_below h a s;
-    }
-
-pub located_outside : (h : Header) (a : Arrays) (x : ℕ) → h.buckets ≤ x → located (table h a) x ≡ Outside
+pub located_outside : (h : Header) (a : Arrays) (x : ℕ) → h.buckets ≤ x → located (table h a) x ≡ None
 unfolding located bucket_past if◌then◌otherwise◌ table
 located_outside h a x l = rw (le-leb h.buckets x l)
 
@@ -96,18 +85,25 @@ pub record Reached (h : Header) (a : Arrays) (x i r : ℕ) : Type 0 where
   pub inside : x < h.buckets
   pub rank_most : r ≤ x
 
-pub reached : (h : Header) (a : Arrays) → Formed h a → (x i r : ℕ) → located (table h a) x ≡ At i r → Reached h a x i r
-reached h a s x i r e =
+pub reached
+    : (h : Header) (a : Arrays) → Formed h a → (x : ℕ) (f : Located) → located (table h a) x ≡ Some f → Reached h a x f.interval f.rank
+reached h a s x f e =
     ⊎_elim
     (λ inside.
     let (m, below, b, d) = interval_of_lem h a s x inside in
-    let found : At m (x - get_or a.adjustments m 0) ≡ At i r = sym (located_at h a s m x below b d inside) ∙ e in
-    let same : m ≡ i = cc in
-    let ranked : x - get_or a.adjustments m 0 ≡ r = cc in
-    let here : i < h.interval_count = omega arith in
-    record { below = here; block = interval_kept h a i here; block_below = s.blocks_below i here; inside = inside; rank_most = omega arith })
+    let found : Some (record { interval = m; rank = x - get_or a.adjustments m 0 }) ≡ Some f = sym (located_at h a s m x below b d inside) ∙ e in
+    let same : m ≡ f.interval = cc in
+    let ranked : x - get_or a.adjustments m 0 ≡ f.rank = cc in
+    let here : f.interval < h.interval_count = omega arith in
+    record {
+      below = here;
+      block = interval_kept h a f.interval here;
+      block_below = s.blocks_below f.interval here;
+      inside = inside;
+      rank_most = omega arith;
+    })
     (λ past.
-    let clash : Outside ≡ At i r = sym (located_outside h a x past) ∙ e in
+    let clash : None ≡ Some f = sym (located_outside h a x past) ∙ e in
     let never : ◌≡◌ {A = ℕ} 0 1 = cc in
     absurd (omega arith))
     (below_or x h.buckets)
@@ -140,18 +136,18 @@ module _ (h : Header) (a : Arrays) where
 
   -- the place of a rank in the block of interval i, whose tops are the lent ones
   pub place_at_lem
-      : (x i r : ℕ) → located (table h a) x ≡ At i r → Reached h a x i r
+      : (x : ℕ) (f : Located) → located (table h a) x ≡ Some f → Reached h a x f.interval f.rank
       → place_at (table h a) x
       ≡ record {
         refusal = 0;
-        bin = bin_of a.tops (get_or a.blocks i 0) r;
-        position = position_of a.tops (get_or a.blocks i 0) r;
+        bin = bin_of a.tops (get_or a.blocks f.interval 0) f.rank;
+        position = position_of a.tops (get_or a.blocks f.interval 0) f.rank;
       }
   unfolding place_at place_of
-  place_at_lem x i r e found =
-      let j = get_or a.blocks i 0 in
+  place_at_lem x f e found =
+      let j = get_or a.blocks f.interval 0 in
       rw (e, found.block, bins_same j found.block_below, first_same j found.block_below)
 
-pub place_past_lem : (t : Table) (x : ℕ) → located t x ≡ Outside → place_at t x ≡ record { refusal = 6; bin = 0; position = 0 }
+pub place_past_lem : (t : Table) (x : ℕ) → located t x ≡ None → place_at t x ≡ record { refusal = 6; bin = 0; position = 0 }
 unfolding place_at place_of
 place_past_lem t x e = rw e

@@ -7,9 +7,8 @@ use Rattle.buffers.specs.declared.Machine.{Machine}
 use Rattle.pages.specs.declared.After.{After}
 
 -- a turn of the machine
-pub record Turns (m : Machine) (k : Rack) (block : List ℕ) (r : After) (k' : Rack) (block' out : List ℕ) : Type 0 where
-  pub turned
-      : Turned (stands m k (bytes_of m block)) (take r.put out) r.more (stands r.machine k' (bytes_of r.machine block'))
-  pub ready : Ready r.machine k' block'
+pub record Turns (m : Machine) (k : Rack) (block : List ℕ) (m' : Machine) (k' : Rack) (r : After) (block' out : List ℕ) : Type 0 where
+  pub turned : Turned (stands m k (bytes_of m block)) (take r.put out) r.more (stands m' k' (bytes_of m' block'))
+  pub ready : Ready m' k' block'
   pub room : r.put ≤ length out
-  pub rests : r.more ≡ false → Rests r.machine block'
+  pub rests : r.more ≡ false → Rests m' block'

@@ -29,7 +29,7 @@ use Rattle.model.specs.Calls.{find_tests}
 use Rattle.model.specs.Sound.{Formed}
 use Rattle.model.specs.TableClaims.{PositionSource, PositionBelow, FindPlaced, PlaceFound, FindRefused}
 use Rattle.model.specs.declared.table.Header.{Header}
-use Rattle.model.specs.declared.search.Holder.TheVariants.{In, Nothing}
+use Rattle.std.specs.Prelude.{Some, None}
 use Rattle.model.proofs.Counts.{bit_cases, below_or, and_both, and_left, and_right}
 use Rattle.model.proofs.Intervals.{before_mono, block_at}
 use Rattle.model.proofs.Refusals.{or_both, first_none, first_skip, first_here}
@@ -72,9 +72,9 @@ includes_true a i j r e =
 -- the search answers an interval that includes the rank, or that there is none where none does
 abbrev Answered : Arrays → ℕ → ℕ → ℕ → ℕ → Type 0
 Answered a j r n i =
-    ((holder (from (entry a) i n) (before a.ends i) i j r ≡ Nothing)
+    ((holder (from (entry a) i n) (before a.ends i) i j r ≡ None)
     × ((k : ℕ) → i ≤ k → k < i + n → Including a k j r → ⊥))
-    ⊎ ((m : ℕ) × (m < i + n) × Including a m j r × (holder (from (entry a) i n) (before a.ends i) i j r ≡ In m))
+    ⊎ ((m : ℕ) × (m < i + n) × Including a m j r × (holder (from (entry a) i n) (before a.ends i) i j r ≡ Some m))
 
 answered_from : (a : Arrays) (j r n i : ℕ) → Answered a j r n i
 unfolding holder from if◌then◌otherwise◌ before
@@ -102,7 +102,7 @@ module _ (h : Header) (a : Arrays) (j r : ℕ) where
   -- where one of a table's intervals includes the rank, the search answers one that does
   holder_answers
       : (i : ℕ) → i < h.interval_count → Including a i j r
-      → (m : ℕ) × (m < h.interval_count) × Including a m j r × (holder (table h a).intervals 0 0 j r ≡ In m)
+      → (m : ℕ) × (m < h.interval_count) × Including a m j r × (holder (table h a).intervals 0 0 j r ≡ Some m)
   unfolding table before
   holder_answers i l c =
       ⊎_elim
@@ -112,24 +112,24 @@ module _ (h : Header) (a : Arrays) (j r : ℕ) where
 
   -- an interval that it answers includes the rank
   pub holder_in
-      : (i : ℕ) → holder (table h a).intervals 0 0 j r ≡ In i → (i < h.interval_count) × Including a i j r
+      : (i : ℕ) → holder (table h a).intervals 0 0 j r ≡ Some i → (i < h.interval_count) × Including a i j r
   unfolding table before
   holder_in i e =
       ⊎_elim
       (λ q.
-      let clash : Nothing ≡ In i = sym q.0 ∙ e in
+      let clash : None ≡ Some i = sym q.0 ∙ e in
       let never : ◌≡◌ {A = ℕ} 0 1 = cc in
       absurd (omega arith))
       (λ q.
       let (m, below, d, f) = q in
-      let found : In m ≡ In i = sym f ∙ e in
+      let found : Some m ≡ Some i = sym f ∙ e in
       let same : m ≡ i = cc in
       rw (← same) (omega arith, d))
       (answered_from a j r h.interval_count 0)
 
   -- where none includes it, the search says so
   holder_none
-      : ((i : ℕ) → i < h.interval_count → Including a i j r → ⊥) → holder (table h a).intervals 0 0 j r ≡ Nothing
+      : ((i : ℕ) → i < h.interval_count → Including a i j r → ⊥) → holder (table h a).intervals 0 0 j r ≡ None
   unfolding table before
   holder_none none =
       ⊎_elim
@@ -140,7 +140,7 @@ module _ (h : Header) (a : Arrays) (j r : ℕ) where
 -- the bucket that an answer gives
 pub found_in
     : (h : Header) (a : Arrays) (r m : ℕ) → m < h.interval_count
-    → found_of (table h a) r (In m) ≡ record { refusal = 0; bucket = r + get_or a.adjustments m 0 }
+    → found_of (table h a) r (Some m) ≡ record { refusal = 0; bucket = r + get_or a.adjustments m 0 }
 unfolding table found_of interval_at
 found_in h a r m l =
     ap (λ v. record { refusal = 0; bucket = r + v.adjustment })

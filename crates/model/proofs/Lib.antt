@@ -7,6 +7,7 @@ pub mod Rivals
 pub mod Computed
 pub mod Intervals
 pub mod Refusals
+pub mod Results
 pub mod Tables
 pub mod Rooms
 pub mod Ranks

@@ -15,10 +15,9 @@ use Rattle.model.specs.Refusal.{first, searched, bucket_past, bin_past}
 use Rattle.model.specs.Search.{interval_at, index_of, located, place_of, place_at, found_of, found_at}
 use Rattle.model.specs.Calls.{answer, place_answer, place_tests, find_tests}
 use Rattle.model.specs.TableClaims.{PlaceRefused}
+use Rattle.std.specs.Prelude.{Some, None}
+use Rattle.std.specs.declared.option.Option.{Option}
 use Rattle.model.specs.declared.search.Located.{Located}
-use Rattle.model.specs.declared.search.Located.TheVariants.{At, Outside}
-use Rattle.model.specs.declared.search.Holder.{Holder}
-use Rattle.model.specs.declared.search.Holder.TheVariants.{In, Nothing}
 use Rattle.model.proofs.Counts.{bit_cases, below_or}
 use Rattle.model.proofs.Refusals.{first_skip, first_clear}
 
@@ -33,19 +32,19 @@ first_searched r =
 
 -- a search's answer is a whole reply: where it refuses, its number and zeros
 pub place_whole
-    : (t : Table) (l : Located)
+    : (t : Table) (l : Option Located)
     → answer (place_of t l).refusal (place_of t l) (record { refusal = (place_of t l).refusal; bin = 0; position = 0 })
     ≡ place_of t l
 unfolding answer place_of if◌then◌otherwise◌
-place_whole t (At i r) = refl
-place_whole t Outside = refl
+place_whole t (Some l) = refl
+place_whole t None = refl
 
 pub found_whole
-    : (t : Table) (r : ℕ) (o : Holder)
+    : (t : Table) (r : ℕ) (o : Option ℕ)
     → answer (found_of t r o).refusal (found_of t r o) (record { refusal = (found_of t r o).refusal; bucket = 0 }) ≡ found_of t r o
 unfolding answer found_of if◌then◌otherwise◌
-found_whole t r (In k) = refl
-found_whole t r Nothing = refl
+found_whole t r (Some k) = refl
+found_whole t r None = refl
 
 pub place_answered : (t : Table) (x : ℕ) → place_answer (first (place_tests t x)) t x ≡ place_at t x
 unfolding place_answer place_tests place_at

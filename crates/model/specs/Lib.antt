@@ -16,6 +16,7 @@ pub mod Room
 pub mod Saved
 pub mod Sheet
 pub mod Calls
+pub mod Results
 pub mod Console
 pub mod Balance
 pub mod History

@@ -9,8 +9,10 @@ ghost use Rattle.model.specs.ConsoleClaims.{ConsoleClaims};
 
 pub mod answer;
 pub mod command;
+pub mod given;
 pub mod limits;
 pub mod plan;
+pub mod refusal;
 pub mod reply;
 pub mod search;
 pub mod table;

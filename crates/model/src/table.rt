@@ -8,3 +8,13 @@ pub struct Header {
     pub block_count: u32,
     pub interval_count: u32,
 }
+
+impl Header {
+    // What a refusal replies in place of a header: zeros.
+    pub const NONE: Header = Header {
+        buckets: 0,
+        capacity: 0,
+        block_count: 0,
+        interval_count: 0,
+    };
+}

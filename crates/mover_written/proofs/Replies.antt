@@ -4,21 +4,34 @@ use mathlib.Core.Path.{◌≡◌, refl, sym, ◌∙◌, ap, ap₂}
 use mathlib.Core.Logic.{⊎_elim}
 use mathlib.Core.Bool.{Bool, true, false, false≢true}
 use mathlib.Core.List.{List, [], ◌∷◌}
+use native.Mathlib.Nat.{add-zero}
 use native.Mathlib.Omega.{arith}
-use lib.ListN.{get_or, set}
-use borrow.Author.Tests.{ltb-false, lt-ltb, le-ltb}
+use lib.Dec.{ltb}
+use lib.ListN.{length}
+use borrow.Author.Tests.{lt-ltb, le-ltb}
+use Rattle.std.specs.Prelude.{Err}
 use Rattle.model.specs.Basics.{if◌then◌otherwise◌, ◌and◌}
-use Rattle.model.specs.Refusal.{first, order_past}
-use Rattle.model.specs.Calls.{table_tests, growth_tests}
+use Rattle.model.specs.Table.{Shape, arrays, table}
+use Rattle.model.specs.Refusal.{first}
+use Rattle.model.specs.Calls.{table_tests, growth_tests, rows_of}
+use Rattle.model.specs.Results.{number, carry_told}
+use Rattle.model.specs.declared.refusal.Refusal.{Refusal}
+use Rattle.model.specs.declared.table.Header.{Header}
 use Rattle.model.specs.declared.reply.CarryReply.{CarryReply}
 use Rattle.model.proofs.Counts.{below_or}
-use Rattle.model.proofs.Refusals.{first_number, first_found, first_after, accepted, refused}
-use Rattle.model.proofs.Soundness.{growth_numbered}
-use Rattle.model.proofs.Checked.{stands, passed}
+use Rattle.model.proofs.Refusals.{first_after, accepted, refused}
+use Rattle.model.proofs.Results.{number_some, refused_first}
+use Rattle.model.proofs.Soundness.{table_numbered, growth_numbered}
+use Rattle.table.specs.Formed.{arrays_of}
+use Rattle.table.specs.declared.formed.FormedTable.{FormedTable}
+use Rattle.soundness.specs.Passed.{TableOf}
+use Rattle.relocations.specs.Parts.{moves_of}
 use Rattle.mover_written.specs.Carry.{
   Growth,
+  growth,
   old_table,
   total,
+  word_at,
   source,
   target,
   put,
@@ -37,32 +50,12 @@ use Rattle.mover_written.specs.Carry.{
 use Rattle.mover_written.proofs.Copies.{step}
 use Rattle.mover_written.proofs.Spots.{accepted_ready}
 
--- THE COPY, as the code has it
-
-pub copy_made
-    : (ws left : List ℕ) (i k from to : ℕ) → left ≡ set ws k (get_or ws i 0) → i ≡ from → k ≡ to → left ≡ set ws to (get_or ws from 0)
-copy_made ws left i k from to d e f = d ∙ ap₂ (λ i k. set ws k (get_or ws i 0)) e f
-
--- THE LAST TESTS, as the code has them
-
-module _ (g : Growth) (told : Told) (ws : List ℕ) (m : ℕ) where
-  pub last_tests
-      : (r : ℕ) (short few past : Bool) → r ≡ first ((40, short) ∷ (42, few) ∷ (41, past) ∷ []) → short ≡ words_short g ws
-      → few ≡ told_short g told → past ≡ order_past (total g) m → r ≡ first (carry_tests g told ws m)
-  unfolding carry_tests
-  last_tests r short few past d e f k =
-      d
-      ∙ ap₂ (λ a b. first ((40, a) ∷ (42, b) ∷ (41, past) ∷ [])) e f
-      ∙ ap (λ b. first ((40, words_short g ws) ∷ (42, told_short g told) ∷ (41, b) ∷ [])) k
-
--- where they pass the mark is at most the total
-pub last_mark
-    : (short few : Bool) (t m : ℕ) → first ((40, short) ∷ (42, few) ∷ (41, order_past t m) ∷ []) ≡ 0 → m ≤ t
-last_mark short few t m e =
-    let (_, rest) = first_number 40 short _ (omega arith) e in
-    let (_, last) = first_number 42 few _ (omega arith) rest in
-    let (past, _) = first_number 41 (order_past t m) _ (omega arith) last in
-    ltb-false t m past
+-- the growth of a table that is checked
+pub same_growth
+    : (h : Header) (tops ends blocks adjustments : List ℕ) (s : Shape) (t : FormedTable) → TableOf h tops ends blocks adjustments t
+    → growth t.header (arrays_of t) s ≡ growth h (arrays tops ends blocks adjustments) s
+same_growth h tops ends blocks adjustments s t e =
+    rw (e.same_header, e.same_tops, e.same_ends, e.same_blocks, e.same_adjustments) refl
 
 -- WHETHER THERE IS A COPY
 
@@ -84,35 +77,43 @@ module _ (g : Growth) (told : Told) (m : ℕ) where
 -- REFUSED
 
 module _ (g : Growth) (told : Told) (ws : List ℕ) (m : ℕ) where
-  -- a call refused by r
-  pub refused_by_lem
-      : (r : ℕ) (z : CarryReply) → z ≡ record { refusal = r; mark = 0; finished = 0 } → (r ≡ 0 → ⊥) → r ≡ carry_refusal g told ws m
-      → (z ≡ carry_reply g told ws m) × (ws ≡ carry_words g told ws m)
+  -- a call refused
+  pub refused_told
+      : (r : Refusal) → number r ≡ carry_refusal g told ws m
+      → (carry_told (Err r) ≡ carry_reply g told ws m) × (ws ≡ carry_words g told ws m)
   unfolding carry_reply carry_words
-  refused_by_lem r z e n same =
-      (e ∙ rw (← same) (sym (refused r _ _ n)), rw (← same) (sym (refused r _ _ n)))
+  refused_told r same =
+      (rw (← same) (sym (refused (number r) _ _ (number_some r))), rw (← same) (sym (refused (number r) _ _ (number_some r))))
 
   -- by the table's tests
-  module _ (r : ℕ) (e : r ≡ first (table_tests g.header g.arrays)) where
-    pub by_table : (r ≡ 0 → ⊥) → r ≡ carry_refusal g told ws m
-    unfolding carry_refusal
-    by_table = stands g.header g.arrays r e _
+  pub by_table : (r : Refusal) → number r ≡ first (table_tests g.header g.arrays) → number r ≡ carry_refusal g told ws m
+  unfolding carry_refusal
+  by_table r = refused_first r _ _
 
+  module _ (tests : 0 ≡ first (table_tests g.header g.arrays)) where
     -- by the growth's, after them
-    module _ (z : r ≡ 0) (q : ℕ) (f : q ≡ first (growth_tests (old_table g) g.sizes)) where
-      pub by_growth : (q ≡ 0 → ⊥) → q ≡ carry_refusal g told ws m
-      unfolding carry_refusal
-      by_growth n =
-          f
-          ∙ sym (first_found (growth_tests (old_table g) g.sizes) _ (λ none. n (f ∙ none)))
-          ∙ passed g.header g.arrays r e _ z
+    pub by_growth : (r : Refusal) → number r ≡ first (growth_tests (old_table g) g.sizes) → number r ≡ carry_refusal g told ws m
+    unfolding carry_refusal
+    by_growth r e =
+        refused_first r _ (carry_tests g told ws m) e
+        ∙ sym (first_after (table_tests g.header g.arrays) _ (table_numbered g.header g.arrays) (sym tests))
 
-      -- by those of the words, the bits and the mark, after these; where they pass, it is accepted
-      pub by_last : q ≡ 0 → first (carry_tests g told ws m) ≡ carry_refusal g told ws m
-      unfolding carry_refusal
-      by_last none =
-          sym (first_after (growth_tests (old_table g) g.sizes) _ (growth_numbered (old_table g) g.sizes) (sym f ∙ none))
-          ∙ passed g.header g.arrays r e _ z
+    -- by those of the words, the bits and the mark, after these, as the code has them; where they pass, it is accepted
+    module _ (grown : 0 ≡ first (growth_tests (old_table g) g.sizes)) (n : ℕ) (counted : n ≡ length (moves_of (old_table g) g.sizes)) where
+      pub counts : n ≡ total g
+      unfolding total rows_of table
+      counts = counted
+
+      pub by_last
+          : (w : ℕ) (few : Bool) → w ≡ word_at g.header.capacity g.sizes.bins 0 → few ≡ told_short g told
+          → first ((40, ltb (length ws) w) ∷ (42, few) ∷ (41, ltb n m) ∷ []) ≡ carry_refusal g told ws m
+      unfolding carry_refusal carry_tests words_short word_at
+      by_last w few e f =
+          ap₂ (λ a b. first ((40, a) ∷ (42, b) ∷ (41, ltb n m) ∷ [])) (ap (ltb (length ws)) (e ∙ add-zero _)) f
+          ∙ ap (λ k. first ((40, words_short g ws) ∷ (42, told_short g told) ∷ (41, ltb k m) ∷ [])) counts
+          ∙ sym
+          (first_after (table_tests g.header g.arrays) _ (table_numbered g.header g.arrays) (sym tests)
+          ∙ first_after (growth_tests (old_table g) g.sizes) _ (growth_numbered (old_table g) g.sizes) (sym grown))
 
 -- ACCEPTED
 
@@ -138,14 +139,6 @@ module _ (g : Growth) (told : Told) (ws : List ℕ) (m : ℕ) (ok : carry_refusa
   pub reply_end : total g ≤ m → carry_reply g told ws m ≡ record { refusal = 0; mark = m; finished = 1 }
   unfolding carry_reply if◌then◌otherwise◌
   reply_end l = accepted _ _ _ ok ∙ rw (le-ltb m (total g) l) refl
-
-  -- so where the code has the numbers of the reply as z
-  module _ (z : CarryReply) (n f : ℕ) (e : z ≡ record { refusal = 0; mark = n; finished = f }) where
-    pub more_by : m < total g → n ≡ m + 1 → f ≡ 0 → z ≡ carry_reply g told ws m
-    more_by l same none = e ∙ rw (same, none) (sym (reply_more l))
-
-    pub end_by : total g ≤ m → n ≡ m → f ≡ 1 → z ≡ carry_reply g told ws m
-    end_by l same one = e ∙ rw (same, one) (sym (reply_end l))
 
   -- its mark is one more, up to the total
   pub mark_after : (carry_reply g told ws m).mark ≡ min (total g) (m + 1)

@@ -11,7 +11,7 @@ use Rattle.model.specs.Expansion.{differs}
 use Rattle.model.specs.Calls.{table_tests, growth_tests}
 use Rattle.model.specs.declared.reply.CarryReply.{CarryReply}
 use Rattle.model.proofs.Counts.{bit_cases, below_or}
-use Rattle.model.proofs.Refusals.{accepted, refused}
+use Rattle.model.proofs.Refusals.{refused}
 use Rattle.mover_written.specs.Carry.{
   Growth,
   old_table,

@@ -1,19 +1,22 @@
--- What a call is to do on a sound table, as the code has it. Assumes nothing.
-use Rattle.std.specs.Prelude.{ℕ, ◌<◌, ◌≡◌, true, false, List}
-use Rattle.row_places.specs.declared.whole.Row.{Row}
-use Rattle.mover_written.specs.Carry.{Growth, Told, total, word_at, carry_refusal, carry_reply, carry_words}
-use Rattle.mover_written.specs.declared.Step.{Step}
+-- What a call is told, and the words of a row, as the code has them. Assumes nothing.
+use Rattle.std.specs.Prelude.{ℕ, ◌*◌, ◌<◌, List, length, Option, Some, None}
+use Rattle.std.specs.Borrow.{Bor}
+use Rattle.row_places.specs.declared.RowPlaces.{RowPlaces}
+use Rattle.mover_written.specs.Carry.{Told, every, bits, word_at}
+
+-- nothing where every bucket is written, or the bits
+abbrev pub told_of : Option (Bor (List ℕ)) → Told
+told_of None = every
+told_of (Some ws) = bits ws.now
+
+-- there is a bit of bucket x, if there are bits
+abbrev pub Bit : Told → ℕ → Type 0
+Bit every x = Unit {0}
+Bit (bits ws) x = x < 64 * length ws
 
 -- the words of a row's old place and of its new one, where the capacity is p
-abbrev pub from_of : ℕ → Row → ℕ
+abbrev pub from_of : ℕ → RowPlaces → ℕ
 from_of p row = word_at p row.old.bin row.old.position
 
-abbrev pub to_of : ℕ → Row → ℕ
+abbrev pub to_of : ℕ → RowPlaces → ℕ
 to_of p row = word_at p row.new.bin row.new.position
-
--- the reply, and whether there is a row; without one no word changes, and where there is one the call is accepted at a mark m below the
--- total
-pub record Stepped (g : Growth) (told : Told) (ws : List ℕ) (m : ℕ) (r : Step) : Type 0 where
-  pub reply : r.reply ≡ carry_reply g told ws m
-  pub none : r.some ≡ false → ws ≡ carry_words g told ws m
-  pub row : r.some ≡ true → (carry_refusal g told ws m ≡ 0) × (m < total g)

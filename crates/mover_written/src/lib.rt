@@ -2,29 +2,28 @@
 // is in specs/Claims.antt, and what is proved of blank buckets in specs/WrittenClaims.antt.
 #![tactic(auto)]
 
-ghost use Rattle.std.specs.Prelude.{ℕ, ◌*◌, ◌<◌, not, false, List, [], ◌∷◌, ◌≡◌, length, get_or, set};
+ghost use Rattle.std.specs.Prelude.{◌<◌, not, [], ◌∷◌, ◌≡◌, IfOk, length, get_or, set};
 ghost use Rattle.model.specs.Table.{arrays, sizes};
 ghost use Rattle.model.specs.Refusal.{first};
-ghost use Rattle.model.specs.Sound.{Sound};
 ghost use Rattle.model.specs.Calls.{table_tests};
-ghost use Rattle.written.specs.Written.{written};
-ghost use Rattle.mover_written.specs.Carry.{Told, growth, every, told_short, word_at, carry_reply, carry_words};
+ghost use Rattle.model.specs.Results.{refusal_of, carry_told};
+ghost use Rattle.soundness.specs.Passed.{TableOf};
+ghost use Rattle.mover_written.specs.Carry.{Growth, growth, total, every, is_written, told_short, word_at, carry_refusal, carry_reply, carry_words};
 ghost use Rattle.mover_written.specs.Carry.{bits as told_bits};
-ghost use Rattle.mover_written.specs.Steps.{from_of, to_of, Stepped};
+ghost use Rattle.mover_written.specs.Steps.{told_of, Bit, from_of, to_of};
 ghost use Rattle.mover_written.specs.Claims.{CarryClaims};
 ghost use Rattle.mover_written.specs.WrittenClaims.{CountClaims};
 
+use expansion_plan::growth_allowed;
+use model::given::Carried;
+use model::refusal::Refusal;
 use model::reply::CarryReply;
 use model::table::Header;
-use row_places::{Row, row_of};
+use relocations::relocation_count;
+use row_places::{RowPlaces, row_of};
+use soundness::{arrays_short, check};
+use table::FormedTable;
 use written::{bits_short, is_written};
-
-// A call's reply, and whether there is a row to do.
-#[derive(Clone, Copy)]
-pub struct Step {
-    reply: CarryReply,
-    some: bool,
-}
 
 // What is proved of runs of calls (specs/Claims.antt), and of the count of written moved buckets (specs/WrittenClaims.antt).
 pub fn claims()
@@ -47,120 +46,146 @@ fn copy_word(words: &mut [u32], from: usize, to: usize)
     words[to] = words[from];
 }
 
-// The number of the first of rules 11 to 16 and 30 that the table breaks, or 0. The check asks for the lengths too: asked here, in the
-// caller's code, the compiler takes each of them by itself, and does not wait for the caller's stores of a pointer and a length.
-fn table_refusal(
-    header: Header,
-    tops: &[u32],
-    ends: &[u32],
-    blocks: &[u32],
-    adjustments: &[u32],
-) -> u32
-    ensures { result ≡ first (table_tests header (arrays tops.now ends.now blocks.now adjustments.now)) }
-{
-    if soundness::arrays_short(header, tops, ends, blocks, adjustments) {
-        return 11;
-    }
-    soundness::check(header, tops, ends, blocks, adjustments)
-}
-
-// Whether a bucket is blank.
-fn is_blank(bits: &[u64], bucket: u32) -> bool
-    requires { bucket < 64 * length bits.now }
-    ensures { result ≡ not (written bits.now bucket) }
-{
-    !is_written(bits, bucket)
-}
-
-// The tests of the words, of the bits and of the mark, in their order: too few words, too few bits, and a mark above the total.
-fn last_refusal(short: bool, few: bool, past: bool) -> u32
-    ensures { result ≡ first ((40, short) ∷ (42, few) ∷ (41, past) ∷ []) }
-{
-    if short {
-        return 40;
-    }
-    if few {
-        return 42;
-    }
-    if past {
-        return 41;
-    }
-    0
-}
-
-// The reply that refuses a call: its number, and zeros.
-fn refused(refusal: u32) -> CarryReply
-    ensures { result ≡ record { refusal = refusal; mark = 0; finished = 0 } }
-{
-    CarryReply {
-        refusal,
-        mark: 0,
-        finished: 0,
-    }
-}
-
-// The reply that accepts it, with the mark to store.
-fn accepted(next: u32, finished: u32) -> CarryReply
-    ensures { result ≡ record { refusal = 0; mark = next; finished = finished } }
-{
-    CarryReply {
-        refusal: 0,
-        mark: next,
-        finished,
-    }
-}
-
-// A reply without a row to do.
-fn no_row(reply: CarryReply) -> Step
-    ensures { result ≡ record { reply = reply; some = false } }
-{
-    Step { reply, some: false }
-}
-
-// What a call answers on a sound table, and whether it has a row to do, where `words` is how many words it is lent and `few` whether its
-// bits are too few.
-fn step_of(
-    header: Header,
-    tops: &[u32],
-    buckets: u32,
-    bins: u32,
-    words: usize,
-    few: bool,
-    mark: u32,
-) -> Step
-    requires { (ends blocks adjustments : List ℕ) × Sound header (arrays tops.now ends blocks adjustments) }
-    ensures { (ends blocks adjustments : List ℕ) → Sound header (arrays tops.now ends blocks adjustments)
-        → (told : Told) (ws : List ℕ) → words ≡ length ws
-        → few ≡ told_short (growth header (arrays tops.now ends blocks adjustments) (sizes buckets bins)) told
-        → Stepped (growth header (arrays tops.now ends blocks adjustments) (sizes buckets bins)) told ws mark result }
-{
-    let wrong = expansion_plan::growth_refusal(header, tops, buckets, bins);
-    if wrong != 0 {
-        return no_row(refused(wrong));
-    }
-    let total = relocations::relocation_count(header, tops, buckets, bins);
-    let short = words < word_at(header.capacity, bins, 0);
-    let wrong = last_refusal(short, few, total < mark);
-    if wrong != 0 {
-        return no_row(refused(wrong));
-    }
-    if total == mark {
-        return no_row(accepted(mark, 1));
-    }
-    Step {
-        reply: accepted(mark + 1, 0),
-        some: true,
-    }
-}
-
 // The word of a row's old place copied to its new one.
-fn copy_row(capacity: u32, row: Row, words: &mut [u32])
+fn copy_row(capacity: u32, row: RowPlaces, words: &mut [u32])
     requires { (from_of capacity row < length words.old) × (to_of capacity row < length words.old) }
     ensures { words.new ≡ set words.old (to_of capacity row) (get_or words.old (from_of capacity row) 0) }
 {
     let from = word_at(capacity, row.old.bin, row.old.position);
     let to = word_at(capacity, row.new.bin, row.new.position);
     copy_word(words, from, to)
+}
+
+// Rules 11 to 16 and 30: the table, or the first that it breaks. The check asks for the lengths too: asked here, in the caller's
+// code, the compiler takes each of them by itself, and does not wait for the caller's stores of a pointer and a length.
+fn checked<'a>(
+    header: Header,
+    tops: &'a [u32],
+    ends: &'a [u32],
+    blocks: &'a [u32],
+    adjustments: &'a [u32],
+) -> Result<FormedTable<'a>, Refusal>
+    ensures refusal { refusal_of result ≡ first (table_tests header (arrays tops.now ends.now blocks.now adjustments.now)) }
+    ensures table { IfOk result (λ t. TableOf header tops.now ends.now blocks.now adjustments.now t) }
+{
+    if arrays_short(header, tops, ends, blocks, adjustments) {
+        return Err(Refusal::HeaderWrong);
+    }
+    check(header, tops, ends, blocks, adjustments)
+}
+
+// Whether a call is told too few bits, one of each old bucket: none where every bucket is written.
+fn told_few(told: Option<&[u64]>, buckets: u32) -> bool
+    ensures { (g : Growth) → g.header.buckets ≡ buckets → result ≡ told_short g (told_of told.entry) }
+{
+    match told {
+        Some(bits) => bits_short(bits, buckets),
+        None => false,
+    }
+}
+
+// Whether a bucket is blank.
+fn is_blank(told: Option<&[u64]>, bucket: u32) -> bool
+    requires { Bit (told_of told) bucket }
+    ensures { result ≡ not (is_written (told_of told.entry) bucket) }
+{
+    match told {
+        Some(bits) => !is_written(bits, bucket),
+        None => false,
+    }
+}
+
+// 40: too few words. 42: too few bits. 41: a mark above the total.
+fn last_allowed(short: bool, few: bool, past: bool) -> Result<(), Refusal>
+    ensures { refusal_of result ≡ first ((40, short) ∷ (42, few) ∷ (41, past) ∷ []) }
+{
+    if short {
+        return Err(Refusal::WordsShort);
+    }
+    if few {
+        return Err(Refusal::BitsShort);
+    }
+    if past {
+        return Err(Refusal::MarkPast);
+    }
+    Ok(())
+}
+
+// The tests of a call in their order: the table, and how many rows there are.
+fn tested<'a>(
+    header: Header,
+    tops: &'a [u32],
+    ends: &'a [u32],
+    blocks: &'a [u32],
+    adjustments: &'a [u32],
+    buckets: u32,
+    bins: u32,
+    told: Option<&[u64]>,
+    words: &[u32],
+    mark: u32,
+) -> Result<(FormedTable<'a>, u32), Refusal>
+    ensures refusal { refusal_of result
+        ≡ carry_refusal (growth header (arrays tops.now ends.now blocks.now adjustments.now) (sizes buckets bins)) (told_of told.entry)
+        words.now mark }
+    ensures table { IfOk result (λ r. TableOf header tops.now ends.now blocks.now adjustments.now r.0) }
+    ensures total { IfOk result
+        (λ r. r.1 ≡ total (growth header (arrays tops.now ends.now blocks.now adjustments.now) (sizes buckets bins))) }
+{
+    let table = checked(header, tops, ends, blocks, adjustments)?;
+    growth_allowed(header, tops, buckets, bins)?;
+    let total = relocation_count(header, tops, buckets, bins);
+    let short = words.len() < word_at(header.capacity, bins, 0);
+    let few = told_few(told, header.buckets);
+    last_allowed(short, few, total < mark)?;
+    Ok((table, total))
+}
+
+// What a call does and answers: it is told one bit of each old bucket, or nothing where every bucket is written.
+fn carried(
+    header: Header,
+    tops: &[u32],
+    ends: &[u32],
+    blocks: &[u32],
+    adjustments: &[u32],
+    buckets: u32,
+    bins: u32,
+    told: Option<&[u64]>,
+    words: &mut [u32],
+    mark: u32,
+) -> Result<Carried, Refusal>
+    ensures value { carry_told result
+        ≡ carry_reply (growth header (arrays tops.now ends.now blocks.now adjustments.now) (sizes buckets bins)) (told_of told.entry)
+        words.old mark }
+    ensures words_left { words.new
+        ≡ carry_words (growth header (arrays tops.now ends.now blocks.now adjustments.now) (sizes buckets bins)) (told_of told.entry)
+        words.old mark }
+{
+    let (table, total) = tested(
+        header,
+        tops,
+        ends,
+        blocks,
+        adjustments,
+        buckets,
+        bins,
+        told,
+        words,
+        mark,
+    )?;
+    if total == mark {
+        return Ok(Carried {
+            mark,
+            finished: true,
+        });
+    }
+    let row = row_of(table, buckets, bins, mark);
+    if !is_blank(told, row.bucket) {
+        copy_row(header.capacity, row.places, words);
+    }
+    Ok(Carried {
+        mark: mark + 1,
+        finished: false,
+    })
 }
 
 // The row of order number `mark` of a growth's move list: copies the word at its old place to its new one. The reply has the mark
@@ -180,17 +205,19 @@ pub fn carry(
     ensures words_left { words.new
         ≡ carry_words (growth header (arrays tops.now ends.now blocks.now adjustments.now) (sizes buckets bins)) every words.old mark }
 {
-    let wrong = table_refusal(header, tops, ends, blocks, adjustments);
-    if wrong != 0 {
-        return refused(wrong);
-    }
-    let step = step_of(header, tops, buckets, bins, words.len(), false, mark);
-    if !step.some {
-        return step.reply;
-    }
-    let row = row_of(header, tops, ends, blocks, adjustments, buckets, bins, mark);
-    copy_row(header.capacity, row, words);
-    step.reply
+    let done = carried(
+        header,
+        tops,
+        ends,
+        blocks,
+        adjustments,
+        buckets,
+        bins,
+        None,
+        words,
+        mark,
+    );
+    CarryReply::from(done)
 }
 
 // The same, but `bits` has one bit for every old bucket, and the word of a blank one is not copied.
@@ -213,19 +240,17 @@ pub fn carry_written(
         ≡ carry_words (growth header (arrays tops.now ends.now blocks.now adjustments.now) (sizes buckets bins)) (told_bits bits.now)
         words.old mark }
 {
-    let wrong = table_refusal(header, tops, ends, blocks, adjustments);
-    if wrong != 0 {
-        return refused(wrong);
-    }
-    let few = bits_short(bits, header.buckets);
-    let step = step_of(header, tops, buckets, bins, words.len(), few, mark);
-    if !step.some {
-        return step.reply;
-    }
-    let row = row_of(header, tops, ends, blocks, adjustments, buckets, bins, mark);
-    if is_blank(bits, row.bucket) {
-        return step.reply;
-    }
-    copy_row(header.capacity, row, words);
-    step.reply
+    let answer = carried(
+        header,
+        tops,
+        ends,
+        blocks,
+        adjustments,
+        buckets,
+        bins,
+        Some(bits),
+        words,
+        mark,
+    );
+    CarryReply::from(answer)
 }

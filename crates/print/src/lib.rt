@@ -2,10 +2,10 @@
 // Every function writes its text over the bytes from `at` on, and answers the place behind it.
 #![tactic(auto)]
 
-ghost use Rattle.std.specs.Prelude.{[], ◌∷◌, ◌≡◌, ◌+◌, ◌≤◌, length};
+ghost use Rattle.std.specs.Prelude.{[], ◌∷◌, ◌≡◌, ◌+◌, ◌*◌, ◌<◌, ◌≤◌, length};
 ghost use Rattle.std.proofs.lemmas.List.Edits.{sets};
 ghost use Rattle.model.specs.Console.{line};
-ghost use Rattle.print.specs.Numbers.{line_room, numbers, line_of};
+ghost use Rattle.print.specs.Numbers.{line_room, line_of};
 
 use decimal::{put_number, put_small};
 
@@ -20,44 +20,26 @@ fn put_word(word: &[u8], out: &mut [u8], at: usize) -> usize
     ensures place { result ≡ at + length word.now }
     ensures bytes { out.new ≡ sets out.old at word.now }
 {
-    let mut i: usize = 0;
-    while i < word.len() {
-        out[at + i] = word[i];
-        i += 1;
+    for (i, c) in word.iter().enumerate() {
+        out[at + i] = *c;
     }
-    at + i
+    at + word.len()
 }
 
-// Two numbers, of which the first is mostly below 100.
-fn put_both(a: u32, b: u32, out: &mut [u8], at: usize) -> usize
-    requires { at + 22 ≤ length out.old }
-    ensures place { result ≡ at + length (numbers (a ∷ b ∷ [])) }
-    ensures bytes { out.new ≡ sets out.old at (numbers (a ∷ b ∷ [])) }
+// A line of a word and numbers. Every second from the last but one on is a bin, or as small: mostly below 100.
+fn put_line(word: &[u8], ns: &[u32], out: &mut [u8], at: usize) -> usize
+    requires { at + length word.now + 11 * length ns.now < length out.old }
+    ensures place { result ≡ at + length (line_of word.now ns.now) }
+    ensures bytes { out.new ≡ sets out.old at (line_of word.now ns.now) }
 {
-    let behind = put_small(a, out, at);
-    put_number(b, out, behind)
-}
-
-// A line of one number.
-fn put_one_line(word: &[u8], n: u32, out: &mut [u8], at: usize) -> usize
-    requires { at + length word.now + 12 ≤ length out.old }
-    ensures place { result ≡ at + length (line_of word.now (n ∷ [])) }
-    ensures bytes { out.new ≡ sets out.old at (line_of word.now (n ∷ [])) }
-{
-    let behind = put_word(word, out, at);
-    let end = put_number(n, out, behind);
-    out[end] = b'\n';
-    end + 1
-}
-
-// A line of two numbers, of which the first is mostly below 100.
-fn put_two_line(word: &[u8], a: u32, b: u32, out: &mut [u8], at: usize) -> usize
-    requires { at + length word.now + 23 ≤ length out.old }
-    ensures place { result ≡ at + length (line_of word.now (a ∷ b ∷ [])) }
-    ensures bytes { out.new ≡ sets out.old at (line_of word.now (a ∷ b ∷ [])) }
-{
-    let behind = put_word(word, out, at);
-    let end = put_both(a, b, out, behind);
+    let mut end = put_word(word, out, at);
+    for (i, n) in ns.iter().enumerate() {
+        end = if (ns.len() - i) % 2 == 0 {
+            put_small(*n, out, end)
+        } else {
+            put_number(*n, out, end)
+        };
+    }
     out[end] = b'\n';
     end + 1
 }
@@ -68,7 +50,7 @@ pub fn put_ok(a: u32, b: u32, out: &mut [u8], at: usize) -> usize
     ensures place { result ≡ at + length (line "ok" (a ∷ b ∷ [])) }
     ensures bytes { out.new ≡ sets out.old at (line "ok" (a ∷ b ∷ [])) }
 {
-    put_two_line(b"ok", a, b, out, at)
+    put_line(b"ok", &[a, b], out, at)
 }
 
 // A bucket's place: its bin, and its position there.
@@ -77,7 +59,7 @@ pub fn put_place(bin: u32, position: u32, out: &mut [u8], at: usize) -> usize
     ensures place { result ≡ at + length (line "place" (bin ∷ position ∷ [])) }
     ensures bytes { out.new ≡ sets out.old at (line "place" (bin ∷ position ∷ [])) }
 {
-    put_two_line(b"place", bin, position, out, at)
+    put_line(b"place", &[bin, position], out, at)
 }
 
 // The bucket at a place.
@@ -86,7 +68,7 @@ pub fn put_bucket(bucket: u32, out: &mut [u8], at: usize) -> usize
     ensures place { result ≡ at + length (line "bucket" (bucket ∷ [])) }
     ensures bytes { out.new ≡ sets out.old at (line "bucket" (bucket ∷ [])) }
 {
-    put_one_line(b"bucket", bucket, out, at)
+    put_line(b"bucket", &[bucket], out, at)
 }
 
 // A refused command: the refusal's number.
@@ -95,7 +77,7 @@ pub fn put_refused(refusal: u32, out: &mut [u8], at: usize) -> usize
     ensures place { result ≡ at + length (line "refused" (refusal ∷ [])) }
     ensures bytes { out.new ≡ sets out.old at (line "refused" (refusal ∷ [])) }
 {
-    put_one_line(b"refused", refusal, out, at)
+    put_line(b"refused", &[refusal], out, at)
 }
 
 // A row of the move list.
@@ -112,10 +94,6 @@ pub fn put_move(
     ensures place { result ≡ at + length (line "move" (bucket ∷ old_bin ∷ old_position ∷ new_bin ∷ new_position ∷ [])) }
     ensures bytes { out.new ≡ sets out.old at (line "move" (bucket ∷ old_bin ∷ old_position ∷ new_bin ∷ new_position ∷ [])) }
 {
-    let first = put_word(b"move", out, at);
-    let second = put_number(bucket, out, first);
-    let third = put_both(old_bin, old_position, out, second);
-    let end = put_both(new_bin, new_position, out, third);
-    out[end] = b'\n';
-    end + 1
+    let row = [bucket, old_bin, old_position, new_bin, new_position];
+    put_line(b"move", &row, out, at)
 }

@@ -73,12 +73,12 @@ module _ (d l : ℕ) (some : 1 ≤ d) (below : d < 2 ^ l) (length : 2 ^ l ≤ 2 
   factor_upper : (P / d + 1) * d ≤ P + 2 ^ l
   factor_upper = omega (arith, factor_times, div-mul-le_self P d, below)
 
-  pub factor_small : P / d + 1 < 2 ^ 34
+  factor_small : P / d + 1 < 2 ^ 34
   factor_small =
       let most : P / d < 2 ^ 33 = (div-lt_iff_lt-mul some).1 (omega (arith, P_is, length)) in
       omega arith
 
-  pub divides : Divides (record { factor = P / d + 1; bits = 30 + l }) d
+  divides : Divides (record { factor = P / d + 1; bits = 30 + l }) d
   divides =
       record {
         bits = omega arith;
@@ -87,13 +87,13 @@ module _ (d l : ℕ) (some : 1 ≤ d) (below : d < 2 ^ l) (length : 2 ^ l ≤ 2 
       }
 
 -- what is worked out for a divisor: 30 more than its length, and the reciprocal
-pub length_of : (d : ℕ) → d < 2 ^ 32 → (l : ℕ) × (62 - count_leading_zeros 32 d ≡ 30 + l) × (d < 2 ^ l) × (2 ^ l ≤ 2 * d + 1) × (l ≤ 32)
+length_of : (d : ℕ) → d < 2 ^ 32 → (l : ℕ) × (62 - count_leading_zeros 32 d ≡ 30 + l) × (d < 2 ^ l) × (2 ^ l ≤ 2 * d + 1) × (l ≤ 32)
 length_of d h =
     let s = leading_length 32 d h in
     (s.0, omega (arith, s.1), s.2, s.3, omega (arith, s.1))
 
 -- `1 << l` at 64 bits, which is a product cut to 64 bits, is 2 ^ l
-pub one_shifted : (l : ℕ) → l < 64 → (1 * 2 ^ l) % 2 ^ 64 ≡ 2 ^ l
+one_shifted : (l : ℕ) → l < 64 → (1 * 2 ^ l) % 2 ^ 64 ≡ 2 ^ l
 one_shifted l h = shl_exact {a = 1} 1 l 64 (lit< tt) (omega arith) ∙ one-mul (2 ^ l)
 
 pub reciprocal_divides
@@ -102,8 +102,3 @@ pub reciprocal_divides
 reciprocal_divides d some h =
     let (l, e, below, length, few) = length_of d h in
     rw (e, one_shifted (30 + l) (omega (arith, few))) (divides d l some below length few)
-
-pub reciprocal_small : (d : ℕ) → 1 ≤ d → d < 2 ^ 32 → (1 * 2 ^ (62 - count_leading_zeros 32 d)) % 2 ^ 64 / d + 1 < 2 ^ 34
-reciprocal_small d some h =
-    let (l, e, below, length, few) = length_of d h in
-    rw (e, one_shifted (30 + l) (omega (arith, few))) (factor_small d l some below length few)

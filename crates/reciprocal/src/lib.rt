@@ -16,9 +16,9 @@ pub fn reciprocal_of(divisor: u32) -> Reciprocal
     requires { 1 ≤ divisor }
     ensures { Divides result divisor }
 {
-    let bits = 62 - u32::leading_zeros(divisor);
+    let bits = 62 - divisor.leading_zeros();
     Reciprocal {
-        factor: (1u64 << bits) / divisor as u64 + 1,
+        factor: (1u64 << bits) / u64::from(divisor) + 1,
         bits,
     }
 }
@@ -28,5 +28,5 @@ pub fn quotient(x: u32, by: Reciprocal) -> u32
     requires { (x < 2 ^ 30) × ((d : ℕ) × Divides by d) }
     ensures { (d : ℕ) → Divides by d → result ≡ x / d }
 {
-    (x as u64 * by.factor >> by.bits) as u32
+    (u64::from(x) * by.factor >> by.bits) as u32
 }

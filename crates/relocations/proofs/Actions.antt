@@ -1,6 +1,7 @@
 -- Laws of the rows of an interval by its action. Assumes nothing.
 use Prim.Native.Nat.{ℕ, ◌-◌, ◌<◌}
 use mathlib.Core.Path.{◌≡◌, refl, sym, subst}
+use mathlib.Core.Logic.{◌⊎◌, ⊎_elim}
 use mathlib.Core.List.{List, [], append-nil}
 use native.Mathlib.Omega.{arith}
 use lib.Seq.{drop-nil, take-nil}
@@ -48,41 +49,26 @@ paged_none q w buffer = rw (drop-nil {A = List ℕ} (q - w), take-nil) (sym (wit
 
 -- THE PART THAT MOVES
 
--- the order number of its first row is its rank in the new block
-part_own : (old new : Placing) (p e w : ℕ) → Part old new p e w → Part old new p e (p - new.adjustment)
-part_own old new p e w h =
-    record { old_places = h.old_places; new_places = h.new_places; within = h.within; limit = h.limit; ranked = refl }
+-- what moves begins at bucket p, and has the adjustment c
+abbrev pub MovesFrom : Action → ℕ → ℕ → ℕ → Type 0
+MovesFrom a start p c = (p ≡ start) × (a ≡ Move c) ⊎ (a ≡ Split p c)
 
 module _
-    (a : Action) (start end : ℕ) (old : Placing) (f d w : ℕ)
+    (a : Action) (start end : ℕ) (old : Placing) (f d w p c : ℕ)
     (h : (b g : ℕ) → b < g → PartsMove g old f d w start (parts_of a end old b g)) where
   moving : (a' : Action) → a ≡ a' → PartsMove 1 old f d w start (parts_of a' end old 0 1)
   moving a' e = subst (λ a. PartsMove 1 old f d w start (parts_of a end old 0 1)) e (h 0 1 (omega arith))
 
-  module _ (c : ℕ) (e : a ≡ Move c) where
-    whole : Part old (placing f d c) start end w
-    unfolding parts
-    whole = (moving (Move c) e).0 refl
+  -- it is placed, and the order number of its first row is its rank in the new block
+  pub moves_part : MovesFrom a start p c → Part old (placing f d c) p end w
+  unfolding parts
+  moves_part m = ⊎_elim (λ e. rw e.0 ((moving (Move c) e.1).0 refl)) (λ e. (moving (Split p c) e).1.0 refl) m
 
-    pub moves_part : Part old (placing f d c) start end (start - c)
-    moves_part = part_own old (placing f d c) start end w whole
-
-    pub moves_rows
-        : (q : ℕ) (buffer : List ℕ) (b g : ℕ) → b < g
-        → paged q (start - c) (from (placed_row old (placing f d c)) start (end - start)) buffer
-        ≡ paged q w (part_rows g old f d start (parts_of a end old b g)) buffer
-    moves_rows q buffer b g l = rw (rows_move a start end old f d b g l c e, whole.ranked) refl
-
-  module _ (k c : ℕ) (e : a ≡ Split k c) where
-    right : Part old (placing f d c) k end w
-    unfolding parts
-    right = (moving (Split k c) e).1.0 refl
-
-    pub splits_part : Part old (placing f d c) k end (k - c)
-    splits_part = part_own old (placing f d c) k end w right
-
-    pub splits_rows
-        : (q : ℕ) (buffer : List ℕ) (b g : ℕ) → b < g
-        → paged q (k - c) (from (placed_row old (placing f d c)) k (end - k)) buffer
-        ≡ paged q w (part_rows g old f d start (parts_of a end old b g)) buffer
-    splits_rows q buffer b g l = rw (rows_split a start end old f d b g l k c e, right.ranked) refl
+  pub moves_rows
+      : (m : MovesFrom a start p c) (q : ℕ) (buffer : List ℕ) (b g : ℕ) → b < g
+      → paged q (p - c) (from (placed_row old (placing f d c)) p (end - p)) buffer
+      ≡ paged q w (part_rows g old f d start (parts_of a end old b g)) buffer
+  moves_rows m q buffer b g l =
+      let rows : part_rows g old f d start (parts_of a end old b g) ≡ from (placed_row old (placing f d c)) p (end - p) =
+      ⊎_elim (λ e. rw e.0 (rows_move a start end old f d b g l c e.1)) (λ e. rows_split a start end old f d b g l p c e) m in
+      rw (rows, (moves_part m).ranked) refl

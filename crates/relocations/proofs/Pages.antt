@@ -1,5 +1,5 @@
 -- Laws of a page filled part by part. Assumes nothing.
-use Prim.Native.Nat.{ℕ, ◌+◌, ◌-◌, ◌*◌, ◌/◌, min, ◌≤◌, ◌<◌}
+use Prim.Native.Nat.{ℕ, ◌+◌, ◌-◌, ◌*◌, ◌/◌, min, ◌≤◌}
 use mathlib.Core.Path.{◌≡◌, sym, ◌∙◌, ap, ap₂}
 use mathlib.Core.Logic.{⊎_elim}
 use mathlib.Core.List.{List, [], ◌++◌, append-nil}
@@ -68,7 +68,7 @@ page_filled q rs ss old f g =
     (below_or (length old / 5) (length rs - q))
 
 -- a page over a buffer is as long as the buffer
-pub page_fits
+page_fits
     : (q : ℕ) (rs : List (List ℕ)) (old : List ℕ) → Fives rs → length (over (joined (page q (length old) rs)) old) ≡ length old
 page_fits q rs old f =
     length_over (joined (page q (length old) rs)) old
@@ -94,15 +94,6 @@ free n at = omega arith
 less_twice : (e p skip : ℕ) → e - p - skip ≡ e - (p + skip)
 less_twice e p skip = omega arith
 
-all_left : (a b : ℕ) → b ≤ a → min a b ≡ b
-all_left a b l = omega arith
-
-pub room_fits : (n at c : ℕ) → at < n / 5 → (c ≤ c + (n / 5 - at)) × (5 * (at + (c + (n / 5 - at) - c)) ≤ n)
-room_fits n at c l = omega arith
-
-some_left : (a b c : ℕ) → a < b → min a b ≡ c + a - c
-some_left a b c l = omega arith
-
 module _ (f : ℕ → List ℕ) (p e q w : ℕ) (buffer : List ℕ) where
   -- what the page has of it, in all
   paged_some
@@ -124,20 +115,10 @@ module _ (f : ℕ → List ℕ) (p e q w : ℕ) (buffer : List ℕ) where
 
   module _ (at skip : ℕ) (placed : at ≡ w - q) (skipped : skip ≡ q - w) where
     -- all that is left of it, or as much as there is room for
-    paged_cut
-        : (k : ℕ) → min (length buffer / 5 - at) (e - (p + skip)) ≡ k
-        → with_rows at (from f (p + skip) k) buffer ≡ paged q w (from f p (e - p)) buffer
+    pub paged_cut
+        : (k : ℕ) → k ≡ min (length buffer / 5 - at) (e - (p + skip))
+        → with_rows at (from f (p + skip) (p + skip + k - (p + skip))) buffer ≡ paged q w (from f p (e - p)) buffer
     paged_cut k same =
-        let whole = ap₂ min (free (length buffer) at) (less_twice e p skip) ∙ same in
-        rw (placed, skipped) (sym (paged_some k (rw (placed, skipped) at whole)))
-
-    pub paged_left
-        : e - (p + skip) ≤ length buffer / 5 - at
-        → with_rows at (from f (p + skip) (e - (p + skip))) buffer ≡ paged q w (from f p (e - p)) buffer
-    paged_left l = paged_cut (e - (p + skip)) (all_left _ _ l)
-
-    pub paged_room
-        : length buffer / 5 - at < e - (p + skip)
-        → with_rows at (from f (p + skip) (p + skip + (length buffer / 5 - at) - (p + skip))) buffer
-        ≡ paged q w (from f p (e - p)) buffer
-    paged_room l = paged_cut _ (some_left _ _ (p + skip) l)
+        let whole = ap₂ min (free (length buffer) at) (less_twice e p skip) ∙ sym same in
+        let count : p + skip + k - (p + skip) ≡ k = omega arith in
+        rw (count, placed, skipped) (sym (paged_some k (rw (placed, skipped) at whole)))

@@ -35,7 +35,7 @@ use Rattle.table.specs.Placing.{placing, placing_at}
 use Rattle.table.specs.declared.Placing.{Placing}
 use Rattle.relocations.proofs.Actions.{parts_of, rows_stay, rows_move, rows_split}
 use Rattle.rows.proofs.Spans.{five_numbers}
-use Rattle.relocations.proofs.Pages.{page_full, page_fits, paged_behind}
+use Rattle.relocations.proofs.Pages.{page_full, paged_behind}
 
 -- HOW MANY ROWS
 
@@ -264,9 +264,6 @@ module _
         }
 
     module _ (rows : List ℕ) (i start moved : ℕ) (v : Walking h a s q rows₀ rows i start moved) where
-      pub walking_length : length rows ≡ length rows₀
-      walking_length = ap length v.filled ∙ page_fits q _ rows₀ (fives_rows (table h a) (expanded (table h a) s) 0 start)
-
       at_end : h.interval_count ≤ i → i ≡ h.interval_count
       at_end l = omega (arith, v.within)
 

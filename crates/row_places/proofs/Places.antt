@@ -82,7 +82,7 @@ module _ (h : Header) (a : Arrays) (s : Shape) (q : ℕ) (d : Listed h a s q) (i
 
   pub whole_row_lem
       : (old new : Placing) → old ≡ placing_at a i → new ≡ placing (bins (table h a)) (s.bins - bins (table h a)) 0
-      → record { bucket = x; old = slot_of old x; new = slot_of new q } ≡ whole_row (get_or (rows_of h a s) q [])
+      → record { bucket = x; places = record { old = slot_of old x; new = slot_of new q } } ≡ whole_row (get_or (rows_of h a s) q [])
   unfolding rows_of row table
   whole_row_lem old new e e' =
       let same = ap (λ n. get_or (rows (table h a) (expanded (table h a) s)) n []) (sym f.order) ∙ row_at_lem (table h a) (expanded (table h a) s) x inside f.moves in
@@ -93,4 +93,8 @@ module _ (h : Header) (a : Arrays) (s : Shape) (q : ℕ) (d : Listed h a s q) (i
   pub row_places_lem
       : (old new : Placing) → old ≡ placing_at a i → new ≡ placing (bins (table h a)) (s.bins - bins (table h a)) 0
       → record { old = slot_of old x; new = slot_of new q } ≡ places_of (get_or (rows_of h a s) q [])
-  row_places_lem old new e e' = ap (λ (r : Row). record { old = r.old; new = r.new }) (whole_row_lem old new e e')
+  row_places_lem old new e e' = ap (λ (r : Row). r.places) (whole_row_lem old new e e')
+
+  -- and its bucket
+  pub row_bucket_lem : x ≡ get_or (get_or (rows_of h a s) q []) 0 0
+  row_bucket_lem = ap (λ (r : Row). r.bucket) (whole_row_lem _ _ refl refl)

@@ -30,15 +30,6 @@ pub record RowBucket (h : Header) (a : Arrays) (s : Shape) (q i x : ℕ) : Type 
   pub moves : differs (table h a) (expanded (table h a) s) x ≡ true
   pub order : count (differs (table h a) (expanded (table h a) s)) x ≡ q
 
--- a whole row: its bucket, and its two places
-abbrev pub whole_row : List ℕ → Row
-whole_row row =
-    record {
-      bucket = get_or row 0 0;
-      old = record { bin = get_or row 1 0; position = get_or row 2 0 };
-      new = record { bin = get_or row 3 0; position = get_or row 4 0 };
-    }
-
 -- the two places of a row
 abbrev pub places_of : List ℕ → RowPlaces
 places_of row =
@@ -46,3 +37,7 @@ places_of row =
       old = record { bin = get_or row 1 0; position = get_or row 2 0 };
       new = record { bin = get_or row 3 0; position = get_or row 4 0 };
     }
+
+-- a whole row: its bucket, and its two places
+abbrev pub whole_row : List ℕ → Row
+whole_row row = record { bucket = get_or row 0 0; places = places_of row }

@@ -1,19 +1,20 @@
 // The places of one row of the move list: its bucket is found by one walk of the old intervals.
 #![tactic(auto)]
 
-ghost use Rattle.std.specs.Prelude.{ℕ, ◌+◌, min, max, ◌≤◌, ◌<◌, List, [], ◌≡◌, length, get_or};
-ghost use Rattle.model.specs.Lent.{LentFormed, lent};
-ghost use Rattle.model.specs.Table.{Shape, arrays, sizes};
+ghost use Rattle.std.specs.Prelude.{ℕ, ◌+◌, min, max, ◌≤◌, ◌<◌, [], ◌≡◌, length, get_or};
+ghost use Rattle.model.specs.Limits.{max_blocks};
+ghost use Rattle.model.specs.Table.{Shape, sizes};
 ghost use Rattle.model.specs.Refusal.{first};
 ghost use Rattle.model.specs.Calls.{growth_tests, rows_of};
+ghost use Rattle.table.specs.Formed.{table_of, arrays_of};
 ghost use Rattle.row_places.specs.Rows.{Listed, Drains, RowBucket, places_of};
 
 mod whole;
 
 use expansion_plan::block_dues;
+use model::given::Slot;
 use model::limits::BLOCKS;
-use model::table::Header;
-use table::{Placing, Slot, bin_count, placing_of, slot_of};
+use table::{FormedTable, Placing, slot_of};
 pub use whole::{Row, row_of};
 
 // The old blocks that a small array of dues does for: it is cleared by two stores.
@@ -48,25 +49,21 @@ fn cut(due: u32, start: u32, end: u32, adjustment: u32) -> u32
 }
 
 // The bucket of the row of the given order number. `left` is how many rows before it are of intervals from i on.
-fn bucket_at(
-    h: Header,
-    ends: &[u32],
-    blocks: &[u32],
-    adjustments: &[u32],
-    dues: &[u32],
-    order: u32,
-) -> Moved
-    requires { (tops : List ℕ) × (s : Shape) × Drains h (arrays tops ends.now blocks.now adjustments.now) s dues.now order }
-    ensures { (tops : List ℕ) (s : Shape)
-        → Drains h (arrays tops ends.now blocks.now adjustments.now) s dues.now order
-        → RowBucket h (arrays tops ends.now blocks.now adjustments.now) s order result.interval result.bucket }
+fn bucket_at(table: FormedTable, dues: &[u32], order: u32) -> Moved
+    requires { (s : Shape) × Drains table.header (arrays_of table) s dues.now order }
+    ensures { (s : Shape) → Drains table.entry.header (arrays_of table.entry) s dues.now order
+        → RowBucket table.entry.header (arrays_of table.entry) s order result.interval result.bucket }
 {
-    let mut i: usize = 0;
     let mut start: u32 = 0;
     let mut left = order;
-    while i < h.interval_count as usize {
-        let end = ends[i];
-        let first = cut(dues[blocks[i] as usize], start, end, adjustments[i]);
+    for i in 0..table.header.interval_count as usize {
+        let end = table.ends[i];
+        let first = cut(
+            dues[table.blocks[i] as usize],
+            start,
+            end,
+            table.adjustments[i],
+        );
         if left < end - first {
             return Moved {
                 interval: i,
@@ -75,104 +72,65 @@ fn bucket_at(
         }
         left -= end - first;
         start = end;
-        i += 1;
     }
-    // not reached: there is such a row
-    Moved {
-        interval: 0,
-        bucket: 0,
-    }
+    unreachable!()
 }
 
-// That bucket, by an array with room for the dues of the old blocks.
-fn bucket_by(
-    h: Header,
-    tops: &[u32],
-    ends: &[u32],
-    blocks: &[u32],
-    adjustments: &[u32],
-    buckets: u32,
-    bins: u32,
-    order: u32,
-    dues: &mut [u32],
-) -> Moved
-    requires listed { Listed h (arrays tops.now ends.now blocks.now adjustments.now) (sizes buckets bins) order }
-    requires block_count_in_bounds { h.block_count ≤ length dues.old }
-    ensures { RowBucket h (arrays tops.now ends.now blocks.now adjustments.now) (sizes buckets bins) order result.interval result.bucket }
+// That bucket, by an array with room for the dues of N old blocks.
+fn bucket_by<const N: usize>(table: FormedTable, buckets: u32, bins: u32, order: u32) -> Moved
+    requires listed { Listed table.header (arrays_of table) (sizes buckets bins) order }
+    requires block_count_in_bounds { (table.header.block_count ≤ N) × (N ≤ max_blocks) }
+    ensures { RowBucket table.entry.header (arrays_of table.entry) (sizes buckets bins) order result.interval result.bucket }
 {
-    block_dues(tops, h.block_count as usize, buckets, bins, dues);
-    bucket_at(h, ends, blocks, adjustments, dues, order)
-}
-
-// That bucket, by an array of its own.
-fn bucket_of(
-    h: Header,
-    tops: &[u32],
-    ends: &[u32],
-    blocks: &[u32],
-    adjustments: &[u32],
-    buckets: u32,
-    bins: u32,
-    order: u32,
-) -> Moved
-    requires { Listed h (arrays tops.now ends.now blocks.now adjustments.now) (sizes buckets bins) order }
-    ensures { RowBucket h (arrays tops.now ends.now blocks.now adjustments.now) (sizes buckets bins) order result.interval result.bucket }
-{
-    if h.block_count as usize <= FEW {
-        let mut dues = [0u32; FEW];
-        return bucket_by(
-            h,
-            tops,
-            ends,
-            blocks,
-            adjustments,
-            buckets,
-            bins,
-            order,
-            &mut dues,
-        );
-    }
-    let mut dues = [0u32; BLOCKS];
-    bucket_by(
-        h,
-        tops,
-        ends,
-        blocks,
-        adjustments,
+    let mut dues = [0u32; N];
+    block_dues(
+        table.tops,
+        table.header.block_count as usize,
         buckets,
         bins,
-        order,
         &mut dues,
-    )
+    );
+    bucket_at(table, &dues, order)
 }
 
-// The places of the row of the given order number. In the new block its bucket has that number for its rank.
-pub fn row_places(
-    h: Header,
-    tops: &[u32],
-    ends: &[u32],
-    blocks: &[u32],
-    adjustments: &[u32],
-    buckets: u32,
-    bins: u32,
-    order: u32,
-) -> RowPlaces
-    requires lent_formed { LentFormed h tops.now ends.now blocks.now adjustments.now }
-    requires bins_value { first (growth_tests (lent h tops.now ends.now blocks.now adjustments.now) (sizes buckets bins)) ≡ 0 }
-    requires order_in_bounds { order < length (rows_of h (arrays tops.now ends.now blocks.now adjustments.now) (sizes buckets bins)) }
-    ensures { result ≡ places_of (get_or (rows_of h (arrays tops.now ends.now blocks.now adjustments.now) (sizes buckets bins)) order []) }
+// That bucket, by the smaller array that does.
+fn bucket_of(table: FormedTable, buckets: u32, bins: u32, order: u32) -> Moved
+    requires { Listed table.header (arrays_of table) (sizes buckets bins) order }
+    ensures { RowBucket table.entry.header (arrays_of table.entry) (sizes buckets bins) order result.interval result.bucket }
 {
-    let moved = bucket_of(h, tops, ends, blocks, adjustments, buckets, bins, order);
-    let i = moved.interval;
-    let old = placing_of(tops, blocks[i] as usize, adjustments[i]);
-    let old_bins = bin_count(h, tops);
+    if table.header.block_count as usize <= FEW {
+        bucket_by::<FEW>(table, buckets, bins, order)
+    } else {
+        bucket_by::<BLOCKS>(table, buckets, bins, order)
+    }
+}
+
+// The places of a row whose bucket is found. In the new block its bucket has the row's order number for its rank.
+fn places_at(table: FormedTable, bins: u32, moved: Moved, order: u32) -> RowPlaces
+    requires { (buckets : ℕ) × Listed table.header (arrays_of table) (sizes buckets bins) order
+        × RowBucket table.header (arrays_of table) (sizes buckets bins) order moved.interval moved.bucket }
+    ensures { (buckets : ℕ) → Listed table.entry.header (arrays_of table.entry) (sizes buckets bins) order
+        → RowBucket table.entry.header (arrays_of table.entry) (sizes buckets bins) order moved.interval moved.bucket
+        → result ≡ places_of (get_or (rows_of table.entry.header (arrays_of table.entry) (sizes buckets bins)) order []) }
+{
+    let old_bins = table.bins();
     let new = Placing {
         first: old_bins,
         bins: bins - old_bins,
         adjustment: 0,
     };
     RowPlaces {
-        old: slot_of(old, moved.bucket),
+        old: slot_of(table.placing(moved.interval), moved.bucket),
         new: slot_of(new, order),
     }
+}
+
+// The places of the row of the given order number.
+pub fn row_places(table: FormedTable, buckets: u32, bins: u32, order: u32) -> RowPlaces
+    requires bins_value { first (growth_tests (table_of table) (sizes buckets bins)) ≡ 0 }
+    requires order_in_bounds { order < length (rows_of table.header (arrays_of table) (sizes buckets bins)) }
+    ensures { result ≡ places_of (get_or (rows_of table.entry.header (arrays_of table.entry) (sizes buckets bins)) order []) }
+{
+    let moved = bucket_of(table, buckets, bins, order);
+    places_at(table, bins, moved, order)
 }

@@ -11,17 +11,18 @@ use Rattle.model.specs.Basics.{from}
 use Rattle.model.specs.Limits.{max_buckets, label}
 use Rattle.model.proofs.Counts.{below_or}
 use Rattle.model.proofs.Tables.{from_ext}
-use Rattle.rows.specs.Spans.{placed_row, pair_row, run_row, turn, with_rows, Slotted, Turned, Runs}
+use Rattle.rows.specs.Spans.{placed_row, span_rows, pair_row, run_row, turn, with_rows, Slotted, Turned, Runs}
 use Rattle.table.specs.Placing.{Places}
 use Rattle.table.specs.declared.Placing.{Placing}
-use Rattle.table.specs.declared.Slot.{Slot}
+use Rattle.model.specs.declared.given.Slot.{Slot}
 use Rattle.rows.specs.declared.Turn.{Turn}
+use Rattle.rows.specs.declared.span.Span.{Span}
 use Rattle.rows.proofs.Spans.{row_slots, five_numbers, Listed, listed_starts, listed_length, listed_run, listed_more, listed_ends}
 
 -- TURNS
 
 -- the turn of a slot
-turned_slot
+pub turned_slot
     : (f d rank : ℕ) (s : Slot) → Slotted f d rank s → Turned f d rank (turn (s.bin + s.position * 2 ^ 32) (f + d - s.bin))
 turned_slot f d rank s h =
     record {
@@ -68,84 +69,72 @@ module _ (f d rank : ℕ) (t : Turn) (fits : f + d < 2 ^ 32) (h : Turned f d ran
 -- A RUN, ROW BY ROW
 
 -- the rows of a run from bucket b up to x are written, and `here` and `there` are the pairs of x
-pub record Running
-    (old new bucket end b at : ℕ) (rows₀ rows : List ℕ) (here there x entry : ℕ) : Type 0 where
-  pub within : x ≤ end
-  pub old_pair : here ≡ old + (x - bucket)
-  pub new_pair : there ≡ new + (x - bucket)
-  pub done : Listed (run_row bucket old new) b at rows₀ rows x entry
+pub record Running (old new b at : ℕ) (rows₀ rows : List ℕ) (here there x entry : ℕ) : Type 0 where
+  pub old_pair : here ≡ old + (x - b)
+  pub new_pair : there ≡ new + (x - b)
+  pub done : Listed (run_row b old new) b at rows₀ rows x entry
 
-five_pairs : (bucket old new x : ℕ) → length (run_row bucket old new x) ≡ 5
+five_pairs : (b old new x : ℕ) → length (run_row b old new x) ≡ 5
 unfolding run_row pair_row
-five_pairs bucket old new x = refl
+five_pairs b old new x = refl
 
-module _ {old new bucket end : ℕ} where
+module _ {old new b at : ℕ} {rows₀ : List ℕ} where
   -- one with equal numbers
   pub running_same
-      : {b at : ℕ} {rows₀ rows rows' : List ℕ} {here here' there there' x x' entry entry' : ℕ}
+      : {rows rows' : List ℕ} {here here' there there' x x' entry entry' : ℕ}
       → rows' ≡ rows → here' ≡ here → there' ≡ there → x' ≡ x → entry' ≡ entry
-      → Running old new bucket end b at rows₀ rows here there x entry
-      → Running old new bucket end b at rows₀ rows' here' there' x' entry'
+      → Running old new b at rows₀ rows here there x entry
+      → Running old new b at rows₀ rows' here' there' x' entry'
   running_same p q r s t h = rw (p, q, r, s, t) h
 
-  module _ {b at : ℕ} {rows₀ : List ℕ} (low : bucket ≤ b) (fits : 5 * (at + (end - b)) ≤ length rows₀) where
-    pub running_starts
-        : {here there : ℕ} → b ≤ end → here ≡ old + (b - bucket) → there ≡ new + (b - bucket)
-        → Running old new bucket end b at rows₀ rows₀ here there b (5 * at)
-    running_starts l p q =
-        record {
-          within = l;
-          old_pair = p;
-          new_pair = q;
-          done = listed_starts (five_pairs bucket old new) b at rows₀;
-        }
+  pub running_starts : Running old new b at rows₀ rows₀ old new b (5 * at)
+  running_starts =
+      record {
+        old_pair = omega arith;
+        new_pair = omega arith;
+        done = listed_starts (five_pairs b old new) b at rows₀;
+      }
 
-    module _
-        {rows : List ℕ} {here there x entry : ℕ} (s : Running old new bucket end b at rows₀ rows here there x entry) where
-      pub running_length : length rows ≡ length rows₀
-      running_length = listed_length (five_pairs bucket old new) s.done (omega (arith, s.within))
+  module _ (count : ℕ) (fits : 5 * (at + count) ≤ length rows₀) where
+    module _ {rows : List ℕ} {here there x entry : ℕ} (s : Running old new b at rows₀ rows here there x entry) where
+      pub running_length : x ≤ b + count → length rows ≡ length rows₀
+      running_length l = listed_length (five_pairs b old new) s.done (omega (arith, l))
 
       -- there is room for n rows more
-      pub running_room : (n : ℕ) → x + n ≤ end → (entry + 5 * n ≤ length rows) × (entry + 5 * n ≤ length rows₀)
+      pub running_room : (n : ℕ) → x + n ≤ b + count → (entry + 5 * n ≤ length rows) × (entry + 5 * n ≤ length rows₀)
       running_room n l = omega (arith, s.done.entries, s.done.after, running_length)
 
       -- the next row
-      pub Running_more
-          : {rows' : List ℕ} → x < end → rows' ≡ sets rows entry (pair_row x here there)
-          → Running old new bucket end b at rows₀ rows' (here + 1) (there + 1) (x + 1) (entry + 5)
+      pub running_more
+          : {rows' : List ℕ} → x < b + count → rows' ≡ sets rows entry (pair_row x here there)
+          → Running old new b at rows₀ rows' (here + 1) (there + 1) (x + 1) (entry + 5)
       unfolding run_row
-      Running_more l e =
+      running_more l e =
           let after = s.done.after in
           record {
-            within = omega arith;
             old_pair = omega (arith, s.old_pair);
             new_pair = omega (arith, s.new_pair);
             done =
-                listed_more (five_pairs bucket old new) s.done (omega arith)
+                listed_more (five_pairs b old new) s.done (omega arith)
                 (e ∙ ap₂ (λ p q. sets rows entry (pair_row x p q)) s.old_pair s.new_pair);
           }
 
     -- the next two
     pub running_two
-        : {rows rows' rows'' : List ℕ} {here there x entry : ℕ} → Running old new bucket end b at rows₀ rows here there x entry
-        → x + 1 < end → rows' ≡ sets rows entry (pair_row x here there)
+        : {rows rows' rows'' : List ℕ} {here there x entry : ℕ} → Running old new b at rows₀ rows here there x entry
+        → x + 1 < b + count → rows' ≡ sets rows entry (pair_row x here there)
         → rows'' ≡ sets rows' (entry + 5) (pair_row (x + 1) (here + 1) (there + 1))
-        → Running old new bucket end b at rows₀ rows'' (here + 2) (there + 2) (x + 2) (entry + 10)
+        → Running old new b at rows₀ rows'' (here + 2) (there + 2) (x + 2) (entry + 10)
     running_two s l e e' =
-        running_same refl (omega arith) (omega arith) (omega arith) (omega arith) (Running_more (Running_more s (omega arith) e) l e')
+        running_same refl (omega arith) (omega arith) (omega arith) (omega arith) (running_more (running_more s (omega arith) e) l e')
 
-  -- up to bucket b, and from there to the end
+  -- after the last
   pub running_ends
-      : {at b : ℕ} {rows₀ rows₁ rows : List ℕ} {here₁ there₁ entry₁ here there x entry : ℕ}
-      → Running old new bucket end bucket at rows₀ rows₁ here₁ there₁ b entry₁
-      → Running old new bucket end b (at + (b - bucket)) rows₁ rows here there x entry
-      → end ≤ x → 5 * (at + (end - bucket)) ≤ length rows₀
-      → rows ≡ with_rows at (from (run_row bucket old new) bucket (end - bucket)) rows₀
-  running_ends r s l fits =
-      listed_ends (five_pairs bucket old new)
-      (listed_run (five_pairs bucket old new) r.done _ _ (omega (arith, r.within)) r.done.entries s.done.filled)
-      end
-      (omega (arith, s.within, s.done.after))
+      : {rows : List ℕ} {here there x entry : ℕ} (count : ℕ) → Running old new b at rows₀ rows here there x entry → x ≡ b + count
+      → rows ≡ with_rows at (from (run_row b old new) b count) rows₀
+  running_ends count s l =
+      let all : b + count - b ≡ count = omega arith in
+      rw all at (listed_ends (five_pairs b old new) s.done (b + count) l)
 
 -- A SPAN, RUN BY RUN
 
@@ -179,35 +168,31 @@ module _ (p : Placing) (b x : ℕ) (t : Turn) (h : Places p b) (l : b ≤ x) whe
       let rank : x - p.adjustment + k ≡ x + k - p.adjustment = omega (arith, h.ranked) in
       rw rank at (runs p.first (x - p.adjustment) s)
 
--- the rows of the buckets from `bucket` up to x are written, and `here` and `there` are the turns of x
-pub record Turning
-    (old new : Placing) (bucket end at : ℕ) (rows₀ rows : List ℕ) (here there : Turn) (x left row : ℕ) : Type 0 where
-  pub ends : x + left ≡ end
-  pub old_turn : Turned old.first old.bins (x - old.adjustment) here
-  pub new_turn : Turned new.first new.bins (x - new.adjustment) there
-  pub done : Listed (placed_row old new) bucket at rows₀ rows x (5 * row)
+-- the rows of the buckets of a span up to x are written, and `here` and `there` are the turns of x
+pub record Turning (p : Span) (at : ℕ) (rows₀ rows : List ℕ) (here there : Turn) (x left row : ℕ) : Type 0 where
+  pub ends : x + left ≡ p.end
+  pub old_turn : Turned p.old.first p.old.bins (x - p.old.adjustment) here
+  pub new_turn : Turned p.new.first p.new.bins (x - p.new.adjustment) there
+  pub done : Listed (placed_row p.old p.new) p.bucket at rows₀ rows x (5 * row)
 
-module _
-    {old new : Placing} {bucket end at : ℕ} {rows₀ : List ℕ} (o : Places old bucket) (n : Places new bucket)
-    (fits : 5 * (at + (end - bucket)) ≤ length rows₀) where
+module _ {p : Span} {at : ℕ} {rows₀ : List ℕ} (fits : 5 * (at + (p.end - p.bucket)) ≤ length rows₀) where
   pub turning_starts
-      : {s s' : Slot} {here there : Turn} → bucket ≤ end → Slotted old.first old.bins (bucket - old.adjustment) s
-      → Slotted new.first new.bins (bucket - new.adjustment) s'
-      → here ≡ turn (s.bin + s.position * 2 ^ 32) (old.first + old.bins - s.bin)
-      → there ≡ turn (s'.bin + s'.position * 2 ^ 32) (new.first + new.bins - s'.bin)
-      → Turning old new bucket end at rows₀ rows₀ here there bucket (end - bucket) at
-  turning_starts {s} {s'} le h h' e e' =
+      : {here there : Turn}
+      → Turned p.old.first p.old.bins (p.bucket - p.old.adjustment) here
+      → Turned p.new.first p.new.bins (p.bucket - p.new.adjustment) there
+      → Turning p at rows₀ rows₀ here there p.bucket (p.end - p.bucket) at
+  turning_starts h h' =
       record {
-        ends = omega arith;
-        old_turn = rw e (turned_slot old.first old.bins (bucket - old.adjustment) s h);
-        new_turn = rw e' (turned_slot new.first new.bins (bucket - new.adjustment) s' h');
-        done = listed_starts (five_numbers old new) bucket at rows₀;
+        ends = omega (arith, p.within);
+        old_turn = h;
+        new_turn = h';
+        done = listed_starts (five_numbers p.old p.new) p.bucket at rows₀;
       }
 
   module _
-      {rows : List ℕ} {here there : Turn} {x left row : ℕ} (s : Turning old new bucket end at rows₀ rows here there x left row) where
+      {rows : List ℕ} {here there : Turn} {x left row : ℕ} (s : Turning p at rows₀ rows here there x left row) where
     pub turning_length : length rows ≡ length rows₀
-    turning_length = listed_length (five_numbers old new) s.done (omega (arith, s.ends))
+    turning_length = listed_length (five_numbers p.old p.new) s.done (omega (arith, s.ends))
 
     -- there is room for a run
     pub turning_room : (k : ℕ) → k ≤ left → (5 * (row + k) ≤ length rows) × (5 * (row + k) ≤ length rows₀)
@@ -215,37 +200,37 @@ module _
 
     -- its numbers fit
     pub turning_fits
-        : (k : ℕ) → k ≤ here.left → k ≤ there.left → 0 < left → end ≤ max_buckets
+        : (k : ℕ) → k ≤ here.left → k ≤ there.left → 0 < left
         → (here.place + k + 2 ^ 32 < 2 ^ 64) × (there.place + k + 2 ^ 32 < 2 ^ 64)
-    turning_fits k l l' some small = (
-      placed_fits old bucket x here o s.done.after end k s.old_turn l (omega (arith, s.ends)) small,
-      placed_fits new bucket x there n s.done.after end k s.new_turn l' (omega (arith, s.ends)) small,
+    turning_fits k l l' some = (
+      placed_fits p.old p.bucket x here p.places.0 s.done.after p.end k s.old_turn l (omega (arith, s.ends)) p.within.1,
+      placed_fits p.new p.bucket x there p.places.1 s.done.after p.end k s.new_turn l' (omega (arith, s.ends)) p.within.1,
     )
 
     -- the next run
     pub turning_more
         : {k : ℕ} {rows' : List ℕ} {here' there' : Turn} → k ≤ left → k ≤ here.left → k ≤ there.left
         → rows' ≡ with_rows row (from (run_row x here.place there.place) x k) rows
-        → Runs old.bins k here here' → Runs new.bins k there there'
-        → Turning old new bucket end at rows₀ rows' here' there' (x + k) (left - k) (row + k)
+        → Runs p.old.bins k here here' → Runs p.new.bins k there there'
+        → Turning p at rows₀ rows' here' there' (x + k) (left - k) (row + k)
     unfolding run_row pair_row
     turning_more {k} {here' = here'} {there' = there'} l l' l'' e r r' =
         let after = s.done.after in
-        let same : from (run_row x here.place there.place) x k ≡ from (placed_row old new) x k =
-        from_ext (run_row x here.place there.place) (placed_row old new) x k
+        let same : from (run_row x here.place there.place) x k ≡ from (placed_row p.old p.new) x k =
+        from_ext (run_row x here.place there.place) (placed_row p.old p.new) x k
         (λ m a b.
-        row_slots old new m _ _
-        (placed_slots old bucket x here o after s.old_turn m a (omega arith))
-        (placed_slots new bucket x there n after s.new_turn m a (omega arith))) in
+        row_slots p.old p.new m _ _
+        (placed_slots p.old p.bucket x here p.places.0 after s.old_turn m a (omega arith))
+        (placed_slots p.new p.bucket x there p.places.1 after s.new_turn m a (omega arith))) in
         record {
           ends = omega (arith, s.ends);
-          old_turn = placed_turn old bucket x here o after k here' s.old_turn r;
-          new_turn = placed_turn new bucket x there n after k there' s.new_turn r';
+          old_turn = placed_turn p.old p.bucket x here p.places.0 after k here' s.old_turn r;
+          new_turn = placed_turn p.new p.bucket x there p.places.1 after k there' s.new_turn r';
           done =
-              listed_run (five_numbers old new) s.done k row (omega (arith, s.ends)) refl
+              listed_run (five_numbers p.old p.new) s.done k row (omega (arith, s.ends)) refl
               (e ∙ ap (λ l. with_rows row l rows) same);
         }
 
     -- after the last
-    pub turning_ends : left ≡ 0 → rows ≡ with_rows at (from (placed_row old new) bucket (end - bucket)) rows₀
-    turning_ends none = listed_ends (five_numbers old new) s.done end (omega (arith, s.ends))
+    pub turning_ends : left ≡ 0 → rows ≡ with_rows at (span_rows p) rows₀
+    turning_ends none = listed_ends (five_numbers p.old p.new) s.done p.end (omega (arith, s.ends))

@@ -1,8 +1,8 @@
 -- Laws of slots, and of rows written into a buffer. Assumes nothing.
-use Prim.Native.Nat.{ℕ, ◌+◌, ◌-◌, ◌*◌, ◌/◌, ◌%◌, ◌^◌, ◌≤◌, ◌<◌}
+use Prim.Native.Nat.{ℕ, ◌+◌, ◌-◌, ◌*◌, ◌/◌, ◌%◌, ◌≤◌, ◌<◌}
 use mathlib.Core.Path.{◌≡◌, refl, sym, ◌∙◌, ap, ap₂}
 use mathlib.Core.List.{List, [], ◌∷◌, ◌++◌, append-nil, append_assoc}
-use native.Mathlib.Nat.{div-add-mod', mod-lt, mul-add-mod_self_right, mod-eq_of_lt, mul-add-div_right, div-eq_of_lt, add-zero, add-mul, div-le_self}
+use native.Mathlib.Nat.{div-add-mod', mod-lt, mul-add-mod_self_right, mod-eq_of_lt, mul-add-div_right, div-eq_of_lt, add-zero, add-mul}
 use native.Mathlib.Omega.{arith}
 use lib.ListN.{length, take, drop, length-append, length-drop, take-append-drop}
 use lib.Seq.{sets, sets-eq, length-take-le, take_at, drop-append-add, drop-drop}
@@ -11,10 +11,11 @@ use Rattle.model.specs.Limits.{max_buckets, label}
 use Rattle.model.proofs.Tables.{length_from, from_append}
 use Rattle.model.proofs.Rows.{joined_append}
 use Rattle.model.proofs.Pages.{Fives, fives_length, fives_from}
-use Rattle.rows.specs.Spans.{placed_row, with_rows, Slotted, Steps}
+use Rattle.rows.specs.Spans.{placed_row, span_rows, with_rows, Slotted, Steps}
+use Rattle.rows.specs.declared.span.Span.{Span}
 use Rattle.table.specs.Placing.{Places, slot_of}
 use Rattle.table.specs.declared.Placing.{Placing}
-use Rattle.table.specs.declared.Slot.{Slot}
+use Rattle.model.specs.declared.given.Slot.{Slot}
 
 -- SLOTS
 
@@ -59,13 +60,6 @@ slot_placed {p} {x} {s} h e =
       within = omega (arith, bin, mod-lt rank h.some);
       whole = rw position (omega (arith, bin, add-mul (rank / p.bins) label p.bins, div-add-mod' rank p.bins));
     }
-
--- the slot of a bucket below another has a next position
-pub slot_next
-    : (f d x adjustment end : ℕ) (s : Slot) → Slotted f d (x - adjustment) s → x < end → end ≤ max_buckets
-    → s.position + 1 < 2 ^ 32
-slot_next f d x adjustment end s h l limit =
-    omega (arith, slot_position f d (x - adjustment) s h, div-le_self (x - adjustment) d)
 
 slot_stepped
     : (f d x adjustment : ℕ) (s s' : Slot) → 1 ≤ d → adjustment ≤ x → Slotted f d (x - adjustment) s → Steps f (f + d - 1) s s'
@@ -206,61 +200,55 @@ module _ {f : ℕ → List ℕ} (five : (x : ℕ) → length (f x) ≡ 5) where
 
 -- A SPAN, ROW BY ROW
 
--- the rows of the buckets from `bucket` up to x are written, and `here` and `there` are the slots of x
-pub record Spanning
-    (old new : Placing) (bucket end at : ℕ) (rows₀ rows : List ℕ) (here there : Slot) (x entry : ℕ) : Type 0 where
-  pub within : x ≤ end
-  pub old_slot : Slotted old.first old.bins (x - old.adjustment) here
-  pub new_slot : Slotted new.first new.bins (x - new.adjustment) there
-  pub done : Listed (placed_row old new) bucket at rows₀ rows x entry
+-- the rows of the buckets of a span up to x are written, and `here` and `there` are the slots of x
+pub record Spanning (p : Span) (at : ℕ) (rows₀ rows : List ℕ) (here there : Slot) (x entry : ℕ) : Type 0 where
+  pub old_slot : Slotted p.old.first p.old.bins (x - p.old.adjustment) here
+  pub new_slot : Slotted p.new.first p.new.bins (x - p.new.adjustment) there
+  pub done : Listed (placed_row p.old p.new) p.bucket at rows₀ rows x entry
 
 pub five_numbers : (old new : Placing) (x : ℕ) → length (placed_row old new x) ≡ 5
 unfolding placed_row
 five_numbers old new x = refl
 
-module _ {old new : Placing} {bucket end at : ℕ} {rows₀ : List ℕ} (fits : 5 * (at + (end - bucket)) ≤ length rows₀) where
+module _ {p : Span} {at : ℕ} {rows₀ : List ℕ} (fits : 5 * (at + (p.end - p.bucket)) ≤ length rows₀) where
   pub spanning_starts
-      : {here there : Slot} → bucket ≤ end → Slotted old.first old.bins (bucket - old.adjustment) here
-      → Slotted new.first new.bins (bucket - new.adjustment) there
-      → Spanning old new bucket end at rows₀ rows₀ here there bucket (5 * at)
-  spanning_starts le h h' =
+      : {here there : Slot} → here ≡ slot_of p.old p.bucket → there ≡ slot_of p.new p.bucket
+      → Spanning p at rows₀ rows₀ here there p.bucket (5 * at)
+  spanning_starts e e' =
       record {
-        within = le;
-        old_slot = h;
-        new_slot = h';
-        done = listed_starts (five_numbers old new) bucket at rows₀;
+        old_slot = slot_placed p.places.0 e;
+        new_slot = slot_placed p.places.1 e';
+        done = listed_starts (five_numbers p.old p.new) p.bucket at rows₀;
       }
 
-  module _
-      {rows : List ℕ} {here there : Slot} {x entry : ℕ} (s : Spanning old new bucket end at rows₀ rows here there x entry) where
-    pub spanning_length : length rows ≡ length rows₀
-    spanning_length =
-        listed_length (five_numbers old new) s.done (omega (arith, s.within))
+  module _ {rows : List ℕ} {here there : Slot} {x entry : ℕ} (s : Spanning p at rows₀ rows here there x entry) where
+    pub spanning_length : x ≤ p.end → length rows ≡ length rows₀
+    spanning_length l = listed_length (five_numbers p.old p.new) s.done (omega (arith, l))
 
     -- there is room for the next row
-    pub spanning_room : x < end → (entry + 5 ≤ length rows) × (entry + 5 ≤ length rows₀)
+    pub spanning_room : x < p.end → (entry + 5 ≤ length rows) × (entry + 5 ≤ length rows₀)
     spanning_room l = omega (arith, s.done.entries, s.done.after, spanning_length)
 
     -- the next row
     pub spanning_more
-        : {rows' : List ℕ} {here' there' : Slot} → x < end → Places old bucket → Places new bucket
+        : {rows' : List ℕ} {here' there' : Slot} → x < p.end
         → rows' ≡ sets rows entry (x ∷ here.bin ∷ here.position ∷ there.bin ∷ there.position ∷ [])
-        → Steps old.first (old.first + old.bins - 1) here here' → Steps new.first (new.first + new.bins - 1) there there'
-        → Spanning old new bucket end at rows₀ rows' here' there' (x + 1) (entry + 5)
-    spanning_more {here' = here'} {there' = there'} l o n e h h' =
+        → Steps p.old.first (p.old.first + p.old.bins - 1) here here' → Steps p.new.first (p.new.first + p.new.bins - 1) there there'
+        → Spanning p at rows₀ rows' here' there' (x + 1) (entry + 5)
+    spanning_more {here' = here'} {there' = there'} l e h h' =
         let after = s.done.after in
+        let o = p.places.0 in
+        let n = p.places.1 in
         record {
-          within = omega arith;
           old_slot =
-              slot_stepped old.first old.bins x old.adjustment here here' o.some (omega (arith, o.ranked)) s.old_slot h;
+              slot_stepped p.old.first p.old.bins x p.old.adjustment here here' o.some (omega (arith, o.ranked)) s.old_slot h;
           new_slot =
-              slot_stepped new.first new.bins x new.adjustment there there' n.some (omega (arith, n.ranked)) s.new_slot h';
+              slot_stepped p.new.first p.new.bins x p.new.adjustment there there' n.some (omega (arith, n.ranked)) s.new_slot h';
           done =
-              listed_more (five_numbers old new) s.done (omega arith)
-              (e ∙ ap (sets rows entry) (row_slots old new x here there s.old_slot s.new_slot));
+              listed_more (five_numbers p.old p.new) s.done (omega arith)
+              (e ∙ ap (sets rows entry) (row_slots p.old p.new x here there s.old_slot s.new_slot));
         }
 
     -- after the last
-    pub spanning_ends : end ≤ x → rows ≡ with_rows at (from (placed_row old new) bucket (end - bucket)) rows₀
-    spanning_ends l =
-        listed_ends (five_numbers old new) s.done end (omega (arith, s.within))
+    pub spanning_ends : x ≡ p.end → rows ≡ with_rows at (span_rows p) rows₀
+    spanning_ends l = listed_ends (five_numbers p.old p.new) s.done p.end l

@@ -1,16 +1,21 @@
 -- The rows of buckets that move together, and rows written into a lent buffer. Assumes nothing.
 use Rattle.std.specs.Prelude.{ℕ, ◌+◌, ◌-◌, ◌*◌, ◌/◌, ◌%◌, ◌^◌, ◌≤◌, ◌<◌, List, [], ◌∷◌, ◌++◌, ◌≡◌, length, take, drop}
-use Rattle.model.specs.Basics.{joined}
+use Rattle.model.specs.Basics.{joined, from}
 use Rattle.model.specs.Limits.{label}
 use Rattle.table.specs.Placing.{slot_of}
 use Rattle.table.specs.declared.Placing.{Placing}
-use Rattle.table.specs.declared.Slot.{Slot}
+use Rattle.model.specs.declared.given.Slot.{Slot}
 use Rattle.rows.specs.declared.Turn.{Turn}
+use Rattle.rows.specs.declared.span.Span.{Span}
 
 -- the row of bucket x, whose old place goes by `old` and its new one by `new`
 unfoldable pub placed_row : Placing → Placing → ℕ → List ℕ
 placed_row old new x =
     x ∷ (slot_of old x).bin ∷ (slot_of old x).position ∷ (slot_of new x).bin ∷ (slot_of new x).position ∷ []
+
+-- the rows of a span
+abbrev pub span_rows : Span → List (List ℕ)
+span_rows s = from (placed_row s.old s.new) s.bucket (s.end - s.bucket)
 
 -- the row of bucket x whose two places are given as pairs
 unfoldable pub pair_row : ℕ → ℕ → ℕ → List ℕ

@@ -1,2 +1,3 @@
+pub mod Held
 pub mod Maps
 pub mod Claims

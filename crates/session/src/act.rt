@@ -6,35 +6,30 @@ ghost use Rattle.model.specs.Console.{is_fresh, is_unreadable};
 ghost use Rattle.model.specs.declared.command.Command.TheVariants as line;
 ghost use Rattle.model.specs.declared.answer.Answer.TheVariants as says;
 ghost use Rattle.model.specs.Table.{arrays};
+ghost use Rattle.model.specs.Results.{refusal_of};
 ghost use Rattle.session.specs.Maps.{maps, is_empty as empty_at, HasMap, LineTested, Renews, Reads, Stepped, Right};
 
 use crate::state::{Stage, State, Step};
 use model::answer::Answer;
 use model::command::Command;
+use model::given::Slot;
 use model::limits::MAX_CAPACITY;
+use model::refusal::Refusal;
 use model::table::Header;
+use table::FormedTable;
 
 // Whether there is no map.
 pub fn is_empty(state: State) -> bool
     ensures { result ≡ empty_at state.stage }
 {
-    let stage = state.stage;
-    match stage {
-        Stage::Empty => true,
-        Stage::Fresh => false,
-        Stage::Grown => false,
-    }
+    matches!(state.stage, Stage::Empty)
 }
 
 // Whether a line is unreadable.
 fn is_unreadable(command: Command) -> bool
     ensures { result ≡ is_unreadable command }
 {
-    if let Command::Unreadable = command {
-        true
-    } else {
-        false
-    }
+    matches!(command, Command::Unreadable)
 }
 
 // Whether there is no map, and the command is another than `fresh`.
@@ -42,26 +37,22 @@ fn is_unmapped(state: State, command: Command) -> bool
     ensures { result ≡ (empty_at state.stage and not (is_fresh command)) }
 {
     let empty = is_empty(state);
-    if let Command::Fresh { .. } = command {
-        false
-    } else {
-        empty
-    }
+    empty && !matches!(command, Command::Fresh { .. })
 }
 
-// The tests of every line, in their order. 0: neither refuses it.
-fn line_refusal(state: State, command: Command) -> u32
-    ensures { LineTested state command result }
+// The tests of every line, in their order.
+fn line_allowed(state: State, command: Command) -> Result<(), Refusal>
+    ensures { LineTested state command (refusal_of result) }
 {
     let unreadable = is_unreadable(command);
     let unmapped = is_unmapped(state, command);
     if unreadable {
-        return 23;
+        return Err(Refusal::Unreadable);
     }
     if unmapped {
-        return 10;
+        return Err(Refusal::NoMap);
     }
-    0
+    Ok(())
 }
 
 // A refused command: nothing changes.
@@ -99,9 +90,8 @@ fn fresh(
     requires { room_short (arrays tops.old ends.old blocks.old adjustments.old) ≡ false }
     ensures { Renews state (arrays tops.old ends.old blocks.old adjustments.old) (line.Fresh buckets bins) result (arrays tops.new ends.new blocks.new adjustments.new) }
 {
-    let wrong = sizes::fresh_refusal(buckets, bins, MAX_CAPACITY);
-    if wrong != 0 {
-        return refused(state, wrong);
+    if let Err(refusal) = sizes::fresh_allowed(buckets, bins, MAX_CAPACITY) {
+        return refused(state, refusal.number());
     }
     sizes::write_initial(buckets, bins, tops, ends, blocks, adjustments);
     let before = state.before;
@@ -146,22 +136,25 @@ fn grow(
         (line.Grow buckets bins) result (arrays tops.now ends.now blocks.now adjustments.now) (arrays new_tops.new new_ends.new new_blocks.new new_adjustments.new) }
 {
     let header = state.current;
-    let grown = expansion::grown(
+    let table = FormedTable {
         header,
         tops,
         ends,
         blocks,
         adjustments,
+    };
+    let grown = match expansion::grown(
+        table,
         buckets,
         bins,
         new_tops,
         new_ends,
         new_blocks,
         new_adjustments,
-    );
-    if grown.refusal != 0 {
-        return refused(state, grown.refusal);
-    }
+    ) {
+        Ok(grown) => grown,
+        Err(refusal) => return refused(state, refusal.number()),
+    };
     let current = grown.header;
     Step {
         state: State {
@@ -191,18 +184,17 @@ fn place(
     requires { HasMap state (arrays tops.now ends.now blocks.now adjustments.now) }
     ensures { Reads state (arrays tops.now ends.now blocks.now adjustments.now) (line.Where bucket) result }
 {
-    let header = state.current;
-    let reply = lookup::placed(header, tops, ends, blocks, adjustments, bucket);
-    if reply.refusal != 0 {
-        return refused(state, reply.refusal);
+    let table = FormedTable {
+        header: state.current,
+        tops,
+        ends,
+        blocks,
+        adjustments,
+    };
+    match lookup::placed(table, bucket) {
+        Ok(Slot { bin, position }) => told(state, Answer::Place { bin, position }),
+        Err(refusal) => refused(state, refusal.number()),
     }
-    told(
-        state,
-        Answer::Place {
-            bin: reply.bin,
-            position: reply.position,
-        },
-    )
 }
 
 // `at`: the bucket at a place.
@@ -218,17 +210,17 @@ fn find(
     requires { HasMap state (arrays tops.now ends.now blocks.now adjustments.now) }
     ensures { Reads state (arrays tops.now ends.now blocks.now adjustments.now) (line.At bin position) result }
 {
-    let header = state.current;
-    let reply = lookup::found(header, tops, ends, blocks, adjustments, bin, position);
-    if reply.refusal != 0 {
-        return refused(state, reply.refusal);
+    let table = FormedTable {
+        header: state.current,
+        tops,
+        ends,
+        blocks,
+        adjustments,
+    };
+    match lookup::found(table, bin, position) {
+        Ok(bucket) => told(state, Answer::Bucket { bucket }),
+        Err(refusal) => refused(state, refusal.number()),
     }
-    told(
-        state,
-        Answer::Bucket {
-            bucket: reply.bucket,
-        },
-    )
 }
 
 // What a command does to the map, in the first four arrays, and to the other table.
@@ -249,9 +241,8 @@ pub fn act(
         (maps state (arrays tops.old ends.old blocks.old adjustments.old) (arrays other_tops.old other_ends.old other_blocks.old other_adjustments.old)) command result
         (arrays tops.new ends.new blocks.new adjustments.new) (arrays other_tops.new other_ends.new other_blocks.new other_adjustments.new) }
 {
-    let wrong = line_refusal(state, command);
-    if wrong != 0 {
-        return refused(state, wrong);
+    if let Err(refusal) = line_allowed(state, command) {
+        return refused(state, refusal.number());
     }
     match command {
         Command::Fresh { buckets, bins } => {
@@ -276,6 +267,6 @@ pub fn act(
         }
         // the rows are asked for page by page
         Command::Moves => told(state, Answer::Moves),
-        Command::Unreadable => refused(state, 23), // it was refused above
+        Command::Unreadable => refused(state, Refusal::Unreadable.number()), // it was refused above
     }
 }

@@ -2,6 +2,7 @@
 #![tactic(auto)]
 
 pub mod act;
+pub mod arrays;
 pub mod state;
 
 ghost use Rattle.session.specs.Claims.{SessionClaims};

@@ -6,8 +6,8 @@ use mathlib.Core.List.{List, [], ◌∷◌, ◌++◌, append-nil, append_assoc}
 use native.Mathlib.Nat.{zero-add}
 use native.Mathlib.Numerals.{add-one}
 use native.Mathlib.Omega.{arith}
-use lib.ListN.{length, get_or, take, drop, set, length-append, length-drop}
-use lib.Seq.{take-suc, get_or-drop, set-set, set_comm, sets, length-sets}
+use lib.ListN.{length, get_or, take, drop, set, length-append}
+use lib.Seq.{set-set, set_comm, sets, length-sets}
 use Rattle.model.specs.Basics.{from, joined, before}
 use Rattle.model.specs.Table.{Arrays, arrays, table, over, first_bin, block_bins}
 use Rattle.model.specs.Limits.{max_buckets, max_bins}
@@ -59,13 +59,6 @@ pub line_parts
     : (a : Arrays) (i : ℕ) → head_of (before a.ends i) (get_or a.ends i 0) ++ tail_of a.tops (get_or a.blocks i 0) ≡ lent_line a i
 unfolding head_of tail_of sheet_line joined first_bin block_bins
 line_parts a i = simp (append_assoc, append-nil)
-
--- one entry more of those from place f on
-pub taken_next
-    : (xs : List ℕ) (f i : ℕ) → f + i < length xs → take (i + 1) (drop f xs) ≡ take i (drop f xs) ++ (get_or xs (f + i) 0 ∷ [])
-taken_next xs f i l =
-    rw (add-one i)
-    (take-suc (drop f xs) i 0 (omega (arith, length-drop f xs)) ∙ ap (λ v. take i (drop f xs) ++ (v ∷ [])) (get_or-drop f xs i 0))
 
 -- LINES AND TAILS, STORED
 

@@ -8,6 +8,7 @@ ghost use Rattle.model.specs.Basics.{before as entry_before};
 ghost use Rattle.model.specs.Lent.{TopsFormed, SpansFormed};
 ghost use Rattle.model.specs.Limits.{max_buckets, max_bins};
 ghost use Rattle.model.specs.Refusal.{first};
+ghost use Rattle.model.specs.Results.{sheet_told};
 ghost use Rattle.model.specs.Table.{arrays, table, over};
 ghost use Rattle.model.specs.Sheet.{sheet as sheet_of, sheet_length};
 ghost use Rattle.model.specs.Calls.{sheet_tests, sheet_answer, sheet_after};
@@ -15,7 +16,7 @@ ghost use Rattle.fields.specs.Parts.{HoldsPairs};
 ghost use Rattle.sheet.specs.Lines.{head_of, tail_of, tails_of};
 
 use fields::{copy_field, put_field, put_pairs};
-use model::reply::SheetReply;
+use model::refusal::Refusal;
 use model::table::Header;
 use table::before;
 
@@ -73,11 +74,7 @@ fn copy_tail(tails: &[u8], from: usize, out: &mut [u8], at: usize)
     requires { (from + 32 ≤ length tails.now) × (at + 32 ≤ length out.old) }
     ensures { out.new ≡ sets out.old at (take 32 (drop from tails.now)) }
 {
-    let mut i: usize = 0;
-    while i < TAIL {
-        out[at + i] = tails[from + i];
-        i += 1;
-    }
+    out[at..at + TAIL].copy_from_slice(&tails[from..from + TAIL]);
 }
 
 // The tails of all blocks, each with a blank before it.
@@ -86,11 +83,9 @@ fn write_tails(h: Header, tops: &[u32], out: &mut [u8])
     requires room { 2_080 ≤ length out.old }
     ensures { out.new ≡ sets out.old 0 (tails_of tops.now h.block_count) }
 {
-    let mut j: u32 = 0;
-    while j < h.block_count {
+    for j in 0..h.block_count {
         out[TAIL * j as usize] = b' ';
         put_tail(tops, j, out, TAIL * j as usize + 1);
-        j += 1;
     }
 }
 
@@ -102,13 +97,11 @@ fn write_few(h: Header, tops: &[u32], ends: &[u32], blocks: &[u32], out: &mut [u
 {
     let count = h.interval_count as usize;
     let mut start: u32 = 0;
-    let mut i: usize = 0;
-    while i < count {
+    for i in 0..count {
         let end = ends[i];
         put_head(start, end, out, LINE * i);
         put_tail(tops, blocks[i], out, LINE * i + HEAD);
         start = end;
-        i += 1;
     }
 }
 
@@ -124,13 +117,11 @@ fn write_many(h: Header, tops: &[u32], ends: &[u32], blocks: &[u32], out: &mut [
     write_tails(h, tops, &mut tails);
     let lines = h.interval_count as usize;
     let mut start: u32 = 0;
-    let mut i: usize = 0;
-    while i < lines {
+    for i in 0..lines {
         let end = ends[i];
         copy_tail(&tails, TAIL * blocks[i] as usize, out, LINE * i + HEAD - 1);
         copy_head(&pairs, start, end, out, LINE * i);
         start = end;
-        i += 1;
     }
 }
 
@@ -154,22 +145,16 @@ pub fn printed(
     ends: &[u32],
     blocks: &[u32],
     buffer: &mut [u8],
-) -> SheetReply
+) -> Result<u32, Refusal>
     requires { SpansFormed h tops.now ends.now blocks.now }
-    ensures reply { result ≡ sheet_answer (first (sheet_tests h buffer.old)) h }
+    ensures reply { sheet_told result ≡ sheet_answer (first (sheet_tests h buffer.old)) h }
     ensures bytes { buffer.new ≡ sheet_after (first (sheet_tests h buffer.old))
         (table h (arrays tops.now ends.now blocks.now [])) buffer.old }
 {
     let length = LINE * h.interval_count as usize;
     if buffer.len() < length {
-        return SheetReply {
-            refusal: 34,
-            length: 0,
-        };
+        return Err(Refusal::SheetShort);
     }
     write_sheet(h, tops, ends, blocks, buffer);
-    SheetReply {
-        refusal: 0,
-        length: length as u32,
-    }
+    Ok(length as u32)
 }

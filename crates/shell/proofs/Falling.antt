@@ -60,11 +60,11 @@ pub working_none
 working_none {log = log} {n = n} r l = record { text = []; logged = logged_none log n l; goes = goes_none; ready = r }
 
 module _
-    {m m₁ : Machine} {k k₁ k₂ : Rack} {block block₁ block₂ log log₁ log₂ out : List ℕ} {n n₁ n₂ : ℕ} {a : After}
-    (w : Working m k block log n m₁ n₁ k₁ block₁ log₁) (t : Turns m₁ k₁ block₁ a k₂ block₂ out)
+    {m m₁ m₂ : Machine} {k k₁ k₂ : Rack} {block block₁ block₂ log log₁ log₂ out : List ℕ} {n n₁ n₂ : ℕ} {a : After}
+    (w : Working m k block log n m₁ n₁ k₁ block₁ log₁) (t : Turns m₁ k₁ block₁ m₂ k₂ a block₂ out)
     (p : Logged log₁ n₁ (take a.put out) log₂ n₂)
   where
-    pub working_then : Working m k block log n a.machine n₂ k₂ block₂ log₂
+    pub working_then : Working m k block log n m₂ n₂ k₂ block₂ log₂
     working_then =
         record {
           text = w.text ++ take a.put out;
@@ -75,7 +75,7 @@ module _
 
     pub worked_done
         : (closed : Bool) → (closed ≡ false → a.more ≡ false) → (closed ≡ true → 0 < a.put)
-        → Worked m k block log n (record { machine = a.machine; text = n₂; closed = closed }) k₂ block₂ log₂
+        → Worked m k block log n m₂ k₂ (record { text = n₂; closed = closed }) block₂ log₂
     unfolding working_then
     worked_done closed h f =
         record {

@@ -1,11 +1,9 @@
 -- What a run keeps: its input and its text, recorded, and the text with what is due is the output of the input and what follows.
 -- Assumes nothing.
-use Prim.Native.Nat.{ℕ, zero, suc, ◌+◌, ◌-◌, ◌^◌, ◌≤◌, ◌<◌}
+use Prim.Native.Nat.{ℕ, ◌+◌, ◌^◌, ◌≤◌, ◌<◌}
 use mathlib.Core.Path.{◌≡◌, refl, sym, ◌∙◌, ap, subst}
-use mathlib.Core.Bool.{true, false, true≢false}
 use mathlib.Core.List.{List, [], ◌∷◌, ◌++◌, append-nil, append_assoc}
 use native.Mathlib.Omega.{arith}
-use lib.Dec.{eqb, eqb-suc-zero}
 use lib.ListN.{length, take, drop, length-append, length-drop}
 use lib.Seq.{length-take-le}
 use Rattle.model.specs.Console.{output}
@@ -26,12 +24,12 @@ pub record Going (log₁ log₂ log₁' log₂' : List ℕ) (n k reads : ℕ) (s
   pub input_logged : Logged log₁ 0 input log₁' n
   pub text_logged : Logged log₂ 0 text log₂' k
   pub told : (more : List ℕ) → text ++ due s more ≡ output (input ++ more)
-  pub many : 2 ^ 64 ≤ reads + length input + 1
+  pub many : reads ≤ length input
 
 -- before the first block
 pub going_none
-    : (log₁ log₂ : List ℕ) (reads : ℕ) (s : Standing) → s ≡ beginning → 2 ^ 64 ≤ reads + 1 → Going log₁ log₂ log₁ log₂ 0 0 reads s
-going_none log₁ log₂ reads s e h =
+    : (log₁ log₂ : List ℕ) (s : Standing) → s ≡ beginning → Going log₁ log₂ log₁ log₂ 0 0 0 s
+going_none log₁ log₂ s e =
     record {
       input = [];
       text = [];
@@ -61,7 +59,7 @@ module _
     {log₁ log₂ log₁' log₂' : List ℕ} {n k reads : ℕ} {s : Standing} (g : Going log₁ log₂ log₁' log₂' n k reads s)
   where
     -- the reads are spent
-    pub going_spent : reads ≡ 0 → Ran log₁ log₂ log₁' log₂' (record { input = n; text = k; end = Spent })
+    pub going_spent : 2 ^ 64 ≤ reads + 1 → Ran log₁ log₂ log₁' log₂' (record { input = n; text = k; end = Spent })
     going_spent e =
         record {
           input = g.input;
@@ -87,8 +85,8 @@ module _
         due_more [] e l more = absurd (omega arith)
         due_more (c ∷ b₀) e l more = due_received s c b₀ more
 
-        pub going_on : 0 < reads → 0 < length b → Going log₁ log₂ log₁'' log₂'' n' k' (reads - 1) s'
-        going_on r l =
+        pub going_on : 0 < length b → Going log₁ log₂ log₁'' log₂'' n' k' (reads + 1) s'
+        going_on l =
             record {
               input = g.input ++ b;
               text = g.text ++ put;

@@ -14,14 +14,14 @@ use Rattle.shell.specs.declared.Outcome.{Outcome}
 -- turns of the machine: the text that they put, recorded; and the machine, which has gone on by that text, can go on, and has nothing
 -- left to do unless a write failed, which had something to write
 pub record Worked
-    (m : Machine) (k : Rack) (block log : List ℕ) (n : ℕ) (r : Done) (k' : Rack) (block' log' : List ℕ)
+    (m : Machine) (k : Rack) (block log : List ℕ) (n : ℕ) (m' : Machine) (k' : Rack) (r : Done) (block' log' : List ℕ)
     : Type 0
   where
     pub text : List ℕ
     pub logged : Logged log n text log' r.text
-    pub goes : Goes [] (stands m k (bytes_of m block)) text (stands r.machine k' (bytes_of r.machine block'))
-    pub ready : Ready r.machine k' block'
-    pub rests : r.closed ≡ false → Rests r.machine block'
+    pub goes : Goes [] (stands m k (bytes_of m block)) text (stands m' k' (bytes_of m' block'))
+    pub ready : Ready m' k' block'
+    pub rests : r.closed ≡ false → Rests m' block'
     pub tried : r.closed ≡ true → 0 < length text
 
 -- what each end of a run says of its input, its text and the output that is missing: of a whole run nothing is missing; a write that

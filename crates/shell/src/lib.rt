@@ -2,22 +2,19 @@
 // to hand them on (tools/logs), so that the program does the same whatever logs it is lent.
 #![tactic(auto)]
 
-ghost use Rattle.std.specs.Prelude.{◌≡◌, false, ◌≤◌, length};
-ghost use Rattle.model.specs.Refusal.{room_short};
-ghost use Rattle.model.specs.Table.{arrays};
-ghost use Rattle.console.specs.Rack.{rack_of};
-ghost use Rattle.buffers.specs.Machine.{ReadyNow};
+ghost use Rattle.std.specs.Prelude.{◌≤◌, length};
+ghost use Rattle.console.specs.Kept.{rack_of};
+ghost use Rattle.buffers.specs.Machine.{Begins};
 ghost use Rattle.shell.specs.Shell.{Worked, Ran};
 
-use buffers::{BLOCK, Machine, NUMBERS, OUT, receive, start};
+use buffers::program::Program;
+use buffers::{BLOCK, NUMBERS, OUT, receive};
 use machine::turn;
-use model::limits::{BLOCKS, INTERVALS};
 use streams::{read, write};
 
-// After the turns over a block: the machine, the place reached in the log, and whether a write failed, which leaves the rest undone.
+// After the turns over a block: the place reached in the log, and whether a write failed, which leaves the rest undone.
 #[derive(Clone, Copy)]
 struct Done {
-    machine: Machine,
     text: usize,
     closed: bool,
 }
@@ -42,54 +39,26 @@ pub struct Outcome {
 // fails.
 fn work(
     rt: HostRuntime,
-    mut m: Machine,
+    program: &mut Program,
     block: &mut [u8; BLOCK],
-    tops: &mut [u32; BLOCKS],
-    ends: &mut [u32; INTERVALS],
-    blocks: &mut [u32; INTERVALS],
-    adjustments: &mut [u32; INTERVALS],
-    second_tops: &mut [u32; BLOCKS],
-    second_ends: &mut [u32; INTERVALS],
-    second_blocks: &mut [u32; INTERVALS],
-    second_adjustments: &mut [u32; INTERVALS],
     rows: &mut [u32; NUMBERS],
     out: &mut [u8; OUT],
     text_log: &mut [u8],
     mut text: usize,
 ) -> Done
-    requires ready_now { ReadyNow m block.old tops.old ends.old blocks.old adjustments.old second_tops.old second_ends.old second_blocks.old second_adjustments.old }
+    requires read { (program.old.machine.from ≤ program.old.machine.size) × (program.old.machine.size ≤ length block.old) }
     requires text_in_bounds { text ≤ length text_log.old }
-    ensures { Worked m (rack_of m.state tops.old ends.old blocks.old adjustments.old second_tops.old second_ends.old second_blocks.old second_adjustments.old) block.old text_log.old text result
-        (rack_of result.machine.state tops.new ends.new blocks.new adjustments.new second_tops.new second_ends.new second_blocks.new second_adjustments.new) block.new text_log.new }
+    ensures { Worked program.old.machine (rack_of program.old.rack) block.old text_log.old text program.new.machine (rack_of program.new.rack) result block.new text_log.new }
 {
     loop {
-        let after = turn(
-            m,
-            block,
-            tops,
-            ends,
-            blocks,
-            adjustments,
-            second_tops,
-            second_ends,
-            second_blocks,
-            second_adjustments,
-            rows,
-            out,
-        );
-        m = after.machine;
+        let after = turn(program, block, rows, out);
         let written = write(rt.stdout(), out, after.put, text_log, text);
         text = written.place;
         if written.failed {
-            return Done {
-                machine: m,
-                text,
-                closed: true,
-            };
+            return Done { text, closed: true };
         }
         if !after.more {
             return Done {
-                machine: m,
                 text,
                 closed: false,
             };
@@ -97,53 +66,26 @@ fn work(
     }
 }
 
-// The whole input, block by block, until it ends or a write fails. Nothing says that an input ends: the count of reads is what
-// falls.
+// The whole input, block by block, until it ends or a write fails. Nothing says that an input ends: the reads are counted.
 fn serve(
     rt: HostRuntime,
     input_log: &mut [u8],
     text_log: &mut [u8],
+    program: &mut Program,
     block: &mut [u8; BLOCK],
-    tops: &mut [u32; BLOCKS],
-    ends: &mut [u32; INTERVALS],
-    blocks: &mut [u32; INTERVALS],
-    adjustments: &mut [u32; INTERVALS],
-    second_tops: &mut [u32; BLOCKS],
-    second_ends: &mut [u32; INTERVALS],
-    second_blocks: &mut [u32; INTERVALS],
-    second_adjustments: &mut [u32; INTERVALS],
     rows: &mut [u32; NUMBERS],
     out: &mut [u8; OUT],
 ) -> Outcome
-    requires room { room_short (arrays tops.old ends.old blocks.old adjustments.old) ≡ false }
-    requires second_room { room_short (arrays second_tops.old second_ends.old second_blocks.old second_adjustments.old) ≡ false }
+    requires { Begins program.old.machine (rack_of program.old.rack) }
     ensures { Ran input_log.old text_log.old input_log.new text_log.new result }
 {
-    let mut m = start();
     let mut input = 0;
     let mut text = 0;
-    let mut reads = 18_446_744_073_709_551_615u64;
-    while 0 < reads {
-        let came = read(rt.stdin(), block, m.size, input_log, input);
+    for _reads in 0..u64::MAX {
+        let came = read(rt.stdin(), block, program.machine.size, input_log, input);
         input = came.place;
-        m = receive(m, block, came.got);
-        let done = work(
-            rt,
-            m,
-            block,
-            tops,
-            ends,
-            blocks,
-            adjustments,
-            second_tops,
-            second_ends,
-            second_blocks,
-            second_adjustments,
-            rows,
-            out,
-            text_log,
-            text,
-        );
+        program.machine = receive(program.machine, block, came.got);
+        let done = work(rt, program, block, rows, out, text_log, text);
         text = done.text;
         if done.closed {
             return Outcome {
@@ -159,8 +101,6 @@ fn serve(
                 end: End::Whole,
             };
         }
-        m = done.machine;
-        reads -= 1;
     }
     Outcome {
         input,
@@ -174,30 +114,16 @@ fn serve(
 pub fn run(rt: HostRuntime, input_log: &mut [u8], text_log: &mut [u8]) -> Outcome
     ensures { Ran input_log.old text_log.old input_log.new text_log.new result }
 {
+    let mut program = Program::start();
     let mut block = [0; BLOCK];
-    let mut tops = [0; BLOCKS];
-    let mut ends = [0; INTERVALS];
-    let mut blocks = [0; INTERVALS];
-    let mut adjustments = [0; INTERVALS];
-    let mut second_tops = [0; BLOCKS];
-    let mut second_ends = [0; INTERVALS];
-    let mut second_blocks = [0; INTERVALS];
-    let mut second_adjustments = [0; INTERVALS];
     let mut rows = [0; NUMBERS];
     let mut out = [0; OUT];
     serve(
         rt,
         input_log,
         text_log,
+        &mut program,
         &mut block,
-        &mut tops,
-        &mut ends,
-        &mut blocks,
-        &mut adjustments,
-        &mut second_tops,
-        &mut second_ends,
-        &mut second_blocks,
-        &mut second_adjustments,
         &mut rows,
         &mut out,
     )

@@ -1,48 +1,30 @@
--- Laws of the sizes asked for: what the tests of rules 1 and 2 answer, by cases of the sizes. Assumes nothing.
+-- Laws of the sizes asked for: what the tests of rules 1 and 2 answer, by what is asked of the sizes. Assumes nothing.
 use Prim.Native.Nat.{ℕ, ◌≤◌, ◌<◌}
 use mathlib.Core.Path.{◌≡◌}
-use mathlib.Core.Bool.{false}
-use mathlib.Core.Logic.{⊎_elim}
+use mathlib.Core.Bool.{true, false}
 use borrow.Author.Tests.{lt-ltb, le-ltb}
-use Rattle.model.specs.Basics.{if◌then◌otherwise◌}
+use Rattle.model.specs.Basics.{if◌then◌otherwise◌, ◌or◌}
 use Rattle.model.specs.Limits.{max_buckets, max_bins}
 use Rattle.model.specs.Table.{sizes}
-use Rattle.model.specs.Refusal.{first, size_outside, few_buckets}
+use Rattle.model.specs.Refusal.{first, outside, size_outside, few_buckets}
 use Rattle.model.specs.Calls.{size_tests}
-use Rattle.model.proofs.Counts.{bit_cases}
-use Rattle.model.proofs.Refusals.{inside, not_outside, or_left, or_right, or_both}
 
--- both sizes are within their limits
-pub record Within (b n : ℕ) : Type 0 where
-  pub some_buckets : 1 ≤ b
-  pub bucket_limit : b ≤ max_buckets
-  pub some_bins : 1 ≤ n
-  pub bin_limit : n ≤ max_bins
+-- rule 1: by the buckets, or by the bins
+pub asked_buckets : (b n : ℕ) → outside max_buckets b ≡ true → 1 ≡ first (size_tests (sizes b n))
+unfolding first size_tests size_outside ◌or◌ if◌then◌otherwise◌
+asked_buckets b n h = rw (h)
 
-module _ (b n : ℕ) where
-  -- rule 1
-  pub asked_outside : (Within b n → ⊥) → 1 ≡ first (size_tests (sizes b n))
-  unfolding first size_tests size_outside if◌then◌otherwise◌
-  asked_outside h =
-      ⊎_elim
-      (λ t. rw t.0)
-      (λ t.
-      let buckets = inside _ _ (or_left _ _ t.0) in
-      let bins = inside _ _ (or_right _ _ t.0) in
-      absurd (h (record { some_buckets = buckets.0; bucket_limit = buckets.1; some_bins = bins.0; bin_limit = bins.1 })))
-      (bit_cases (size_outside (sizes b n)))
+pub asked_bins : (b n : ℕ) → outside max_buckets b ≡ false → outside max_bins n ≡ true → 1 ≡ first (size_tests (sizes b n))
+unfolding first size_tests size_outside ◌or◌ if◌then◌otherwise◌
+asked_bins b n g h = rw (g, h)
 
-  module _ (w : Within b n) where
-    within : size_outside (sizes b n) ≡ false
-    unfolding size_outside
-    within = or_both _ _ (not_outside _ _ w.some_buckets w.bucket_limit) (not_outside _ _ w.some_bins w.bin_limit)
+module _ (b n : ℕ) (g : outside max_buckets b ≡ false) (h : outside max_bins n ≡ false) where
+  -- rule 2
+  pub asked_few : b < n → 2 ≡ first (size_tests (sizes b n))
+  unfolding first size_tests size_outside few_buckets ◌or◌ if◌then◌otherwise◌
+  asked_few l = rw (g, h, lt-ltb b n l)
 
-    -- rule 2
-    pub asked_few : b < n → 2 ≡ first (size_tests (sizes b n))
-    unfolding first size_tests few_buckets if◌then◌otherwise◌
-    asked_few h = rw (within, lt-ltb b n h)
-
-    -- neither
-    pub asked_right : n ≤ b → 0 ≡ first (size_tests (sizes b n))
-    unfolding first size_tests few_buckets if◌then◌otherwise◌
-    asked_right h = rw (within, le-ltb b n h)
+  -- neither
+  pub asked_right : n ≤ b → 0 ≡ first (size_tests (sizes b n))
+  unfolding first size_tests size_outside few_buckets ◌or◌ if◌then◌otherwise◌
+  asked_right l = rw (g, h, le-ltb b n l)

@@ -6,10 +6,10 @@ ghost use Rattle.model.specs.Table.{written, sizes, arrays};
 ghost use Rattle.model.specs.Refusal.{first, outside, overfills, room_short};
 ghost use Rattle.model.specs.Initial.{initial};
 ghost use Rattle.model.specs.Calls.{size_tests, fresh_tests, room_reply};
+ghost use Rattle.model.specs.Results.{refusal_of, room_told};
 
 use model::limits::{BLOCKS, INTERVALS, LABEL, MAX_BINS, MAX_BUCKETS, MAX_EXPANSIONS};
-use model::reply::{RoomReply, TableReply};
-use model::table::Header;
+use model::refusal::Refusal;
 
 // 21: room for a new table below 65 tops or below 2,081 of any interval array.
 pub fn room_short(tops: &[u32], ends: &[u32], blocks: &[u32], adjustments: &[u32]) -> bool
@@ -28,51 +28,33 @@ pub fn room_short(tops: &[u32], ends: &[u32], blocks: &[u32], adjustments: &[u32
 }
 
 // The intervals to set aside for a number of expansions: m(m + 1) / 2 + 1. 9: more than 64 expansions.
-pub fn room(expansions: u32) -> RoomReply
-    ensures { result ≡ room_reply expansions }
+pub fn room(expansions: u32) -> Result<u32, Refusal>
+    ensures { room_told result ≡ room_reply expansions }
 {
     if MAX_EXPANSIONS < expansions {
-        return RoomReply {
-            refusal: 9,
-            intervals: 0,
-        };
+        return Err(Refusal::OrderPast);
     }
-    RoomReply {
-        refusal: 0,
-        intervals: expansions * (expansions + 1) / 2 + 1,
-    }
+    Ok(expansions * (expansions + 1) / 2 + 1)
 }
 
 // Whether x is 0 or above its limit.
 pub fn is_outside(limit: u32, x: u32) -> bool
     ensures { result ≡ outside limit x }
 {
-    if x == 0 {
-        return true;
-    }
-    limit < x
+    x == 0 || limit < x
 }
 
-// 1: a size is 0 or above its limit. 2: n > B. The number of the first that holds, or 0.
-pub fn size_refusal(buckets: u32, bins: u32) -> u32
-    ensures { result ≡ first (size_tests (sizes buckets bins)) }
+// 1: a size is 0 or above its limit. 2: n > B.
+pub fn sizes_allowed(buckets: u32, bins: u32) -> Result<(), Refusal>
+    ensures { refusal_of result ≡ first (size_tests (sizes buckets bins)) }
 {
-    if buckets == 0 {
-        return 1;
-    }
-    if MAX_BUCKETS < buckets {
-        return 1;
-    }
-    if bins == 0 {
-        return 1;
-    }
-    if MAX_BINS < bins {
-        return 1;
+    if is_outside(MAX_BUCKETS, buckets) || is_outside(MAX_BINS, bins) {
+        return Err(Refusal::SizeOutside);
     }
     if buckets < bins {
-        return 2;
+        return Err(Refusal::FewBuckets);
     }
-    0
+    Ok(())
 }
 
 // Whether some bin of a map of the given sizes would be overfull: what it is due and its label have more positions than the
@@ -81,32 +63,26 @@ pub fn overfull(capacity: u32, buckets: u32, bins: u32) -> bool
     requires { 1 ≤ bins }
     ensures { result ≡ overfills capacity (sizes buckets bins) }
 {
-    if (capacity as u64) * (bins as u64) < (buckets as u64) + (LABEL as u64) * (bins as u64) {
-        return true;
-    }
-    false
+    (capacity as u64) * (bins as u64) < (buckets as u64) + (LABEL as u64) * (bins as u64)
 }
 
-// 31: some bin of the map asked for would be overfull. Its number, or 0.
-pub fn overfull_refusal(capacity: u32, buckets: u32, bins: u32) -> u32
+// 31: some bin of the map asked for would be overfull.
+pub fn capacity_allowed(capacity: u32, buckets: u32, bins: u32) -> Result<(), Refusal>
     requires { 1 ≤ bins }
-    ensures { result ≡ first ((31, overfills capacity (sizes buckets bins)) ∷ []) }
+    ensures { refusal_of result ≡ first ((31, overfills capacity (sizes buckets bins)) ∷ []) }
 {
     if overfull(capacity, buckets, bins) {
-        return 31;
+        return Err(Refusal::Overfills);
     }
-    0
+    Ok(())
 }
 
-// Of a fresh map, 1, 2 and 31: the number of the first that holds, or 0.
-pub fn fresh_refusal(buckets: u32, bins: u32, capacity: u32) -> u32
-    ensures { result ≡ first (fresh_tests (sizes buckets bins) capacity) }
+// Of a fresh map, 1, 2 and 31.
+pub fn fresh_allowed(buckets: u32, bins: u32, capacity: u32) -> Result<(), Refusal>
+    ensures { refusal_of result ≡ first (fresh_tests (sizes buckets bins) capacity) }
 {
-    let wrong = size_refusal(buckets, bins);
-    if wrong != 0 {
-        return wrong;
-    }
-    overfull_refusal(capacity, buckets, bins)
+    sizes_allowed(buckets, bins)?;
+    capacity_allowed(capacity, buckets, bins)
 }
 
 // The initial table: one block, one interval.
@@ -125,20 +101,4 @@ pub fn write_initial(
     ends[0] = buckets;
     blocks[0] = 0;
     adjustments[0] = 0;
-}
-
-// The reply that refuses a table: its number, and zeros.
-pub fn refused_table(refusal: u32) -> TableReply
-    ensures { result ≡ record { refusal = refusal; moved = 0; header = record { buckets = 0; capacity = 0; block_count = 0; interval_count = 0 } } }
-{
-    TableReply {
-        refusal,
-        moved: 0,
-        header: Header {
-            buckets: 0,
-            capacity: 0,
-            block_count: 0,
-            interval_count: 0,
-        },
-    }
 }

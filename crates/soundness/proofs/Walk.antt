@@ -1,7 +1,7 @@
 -- The walk of rule 16 that keeps, for each block, the end less the adjustment of its latest interval, modulo 2^32: while
 -- every adjustment so far is right that is what the block holds, and from the first wrong one on the gathered differences
 -- are not 0. Assumes nothing.
-use Rattle.std.proofs.Common.{◌≡◌, ℕ, ◌+◌, ◌-◌, ◌%◌, ◌<◌, ◌≤◌, Bool, false, not, eqb, List, [], length, get_or, set, replicate, sym, refl, ap, ◌∙◌, subst, add-one, arith, length-set, eq-eqb, ne_eqb}
+use Rattle.std.proofs.Common.{◌≡◌, ℕ, ◌+◌, ◌-◌, ◌%◌, ◌<◌, Bool, false, not, eqb, List, [], get_or, set, replicate, sym, refl, ap, ◌∙◌, subst, add-one, arith, length-set, eq-eqb, ne_eqb}
 use mathlib.Core.Bool.{false≢true}
 use native.Mathlib.Nat.{div-add-mod}
 use native.Mathlib.Decide.{ℕ_discrete}
@@ -58,12 +58,6 @@ unfolding all ◌and◌
 all_failed p i h = rw (add-one i, h)
 
 -- THE WALK
-
--- an interval can be met, where there are n adjustments
-pub within
-    : {h : Header} {ends blocks : List ℕ} {n : ℕ} (i : ℕ) → IntervalsRight h ends blocks → h.interval_count ≤ n
-    → i < h.interval_count → (i < length ends) × (i < length blocks) × (i < n) × (get_or blocks i 0 < max_blocks)
-within i p long l = (omega (arith, p.ends_long), omega (arith, p.blocks_long), omega arith, p.blocks_below i l)
 
 -- no interval walked
 pub walked_none : (h : Header) (a : Arrays) → Walked h a 0 0 (replicate max_blocks 0) 0

@@ -6,6 +6,7 @@ use Rattle.model.specs.Table.{Arrays, arrays, table}
 use Rattle.model.specs.Place.{held}
 use Rattle.model.specs.Refusal.{Test, tops_wrong, ends_wrong, blocks_wrong, holdings_wrong, adjustment_of, adjustments_wrong}
 use Rattle.model.specs.declared.table.Header.{Header}
+use Rattle.table.specs.declared.formed.FormedTable.{FormedTable}
 
 -- 11: counts within their limits, and arrays that have them
 pub record Counted (h : Header) (tops ends blocks : List ℕ) : Type 0 where
@@ -70,3 +71,11 @@ Meets ends blocks adjustments i start sums r sums' =
     (h : Header) → IntervalsRight h ends blocks → i < h.interval_count → (bad : ℕ)
     → Walked h (arrays [] ends blocks adjustments) i start sums bad
     → Walked h (arrays [] ends blocks adjustments) (i + 1) (slice_index ends i) sums' (bit_or bad r)
+
+-- the table of a header and four lists
+pub record TableOf (h : Header) (tops ends blocks adjustments : List ℕ) (t : FormedTable) : Type 0 where
+  pub same_header : t.header ≡ h
+  pub same_tops : t.tops.now ≡ tops
+  pub same_ends : t.ends.now ≡ ends
+  pub same_blocks : t.blocks.now ≡ blocks
+  pub same_adjustments : t.adjustments.now ≡ adjustments

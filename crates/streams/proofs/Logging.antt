@@ -1,14 +1,13 @@
 -- Laws of bytes recorded on a log. Assumes nothing.
-use Prim.Native.Nat.{ℕ, zero, suc, ◌+◌, ◌≤◌, ◌<◌}
-use mathlib.Core.Path.{◌≡◌, refl, sym, ◌∙◌, ap, subst}
+use Prim.Native.Nat.{ℕ, zero, suc, ◌+◌, ◌-◌, ◌≤◌, ◌<◌, min}
+use mathlib.Core.Path.{◌≡◌, refl, sym, ◌∙◌, ap, ap₂, subst}
 use mathlib.Core.Logic.{⊎_elim}
 use mathlib.Core.List.{List, [], ◌∷◌, ◌++◌}
-use native.Mathlib.Numerals.{add-one}
 use native.Mathlib.Omega.{arith}
-use lib.ListN.{length, get_or, take, drop, set, length-append, length-set, take-append-drop}
-use lib.Seq.{take_all, take-suc, length-take-le, sets, length-sets}
+use lib.ListN.{length, take, drop, set, length-append, length-set, take-append-drop, drop_of_length-le}
+use lib.Seq.{take_all, length-take-le, sets, sets-eq, length-sets, paste}
 use Rattle.model.proofs.Counts.{below_or}
-use Rattle.model.proofs.Entries.{sets_more, Put, put_none, put_more, put_length}
+use Rattle.model.proofs.Entries.{sets_more}
 use Rattle.streams.specs.Streams.{Logged}
 
 -- a store past the end changes nothing
@@ -21,49 +20,37 @@ sets_past : (vs l : List ℕ) (i : ℕ) → length l ≤ i → sets l i vs ≡ l
 sets_past [] l i h = refl
 sets_past (v ∷ vs) l i h = sets_past vs (set l i v) (suc i) (omega (arith, length-set l i v)) ∙ set_past l i v h
 
--- THE LOOP THAT RECORDS
+-- THE COPY THAT RECORDS
 
--- the first i bytes are recorded
-pub record Logging (log : List ℕ) (n : ℕ) (bytes : List ℕ) (i : ℕ) (log' : List ℕ) (n' : ℕ) : Type 0 where
-  pub some : i ≤ length bytes
-  pub fits : n' ≤ length log
-  pub put : Put n n' (take i bytes) log log'
+-- as many bytes as there are, or as there is room for
+module _ (log : List ℕ) (n : ℕ) (bytes : List ℕ) (count : ℕ) (h : n ≤ length log) (c : count ≡ min (length bytes) (length log - n)) where
+  abbrev some : List ℕ
+  some = take count bytes
 
-pub logging_none : (log : List ℕ) (n : ℕ) (bytes : List ℕ) → n ≤ length log → Logging log n bytes 0 log n
-logging_none log n bytes h = record { some = omega arith; fits = h; put = put_none n log }
+  pub some_length : length some ≡ count
+  some_length = length-take-le count bytes (omega arith)
 
-module _ {log : List ℕ} {n : ℕ} {bytes : List ℕ} {i : ℕ} {log' : List ℕ} {n' : ℕ} (t : Logging log n bytes i log' n') where
-  pub logging_next
-      : i < length bytes → n' < length log' → Logging log n bytes (i + 1) (set log' n' (get_or bytes i 0)) (n' + 1)
-  logging_next l r =
-      record {
-        some = omega arith;
-        fits = omega (arith, put_length t.put);
-        put =
-            subst (λ (new : List ℕ). Put n (n' + 1) new log (set log' n' (get_or bytes i 0)))
-            (sym (take-suc bytes i 0 l) ∙ ap (λ k. take k bytes) (sym (add-one i)))
-            (put_more t.put (get_or bytes i 0 ∷ []) refl refl);
-      }
+  -- the bytes that have no room change nothing
+  some_all : sets log n some ≡ sets log n bytes
+  some_all =
+      ⊎_elim
+      (λ (full : count < length bytes).
+      sym (sets_past (drop count bytes) (sets log n some) (n + length some) (omega (arith, some_length, length-sets log n some))))
+      (λ (all : length bytes ≤ count). ap (sets (sets log n some) (n + length some)) (sym (drop_of_length-le bytes {i = count} all)))
+      (below_or count (length bytes))
+      ∙ sets_more some (drop count bytes) log n
+      ∙ ap (sets log n) (take-append-drop count bytes)
 
-  pub logging_all : i ≡ length bytes → Logged log n bytes log' n'
-  logging_all e =
-      let all : take i bytes ≡ bytes = take_all i bytes (omega arith) in
-      record {
-        holds = t.put.holds ∙ ap (sets log n) all;
-        place = omega (arith, t.fits, t.put.place, ap length all);
-      }
-
-  pub logging_full : length log' ≤ n' → Logged log n bytes log' n'
-  logging_full f =
-      let size = length-take-le i bytes t.some in
+  pub logged_some : {log' : List ℕ} → log' ≡ paste log n some count → Logged log n bytes log' (n + count)
+  logged_some e =
       record {
         holds =
-            sym (sets_past (drop i bytes) log' n' f)
-            ∙ ap (λ k. sets log' k (drop i bytes)) t.put.place
-            ∙ ap (λ (l : List ℕ). sets l (n + length (take i bytes)) (drop i bytes)) t.put.holds
-            ∙ sets_more (take i bytes) (drop i bytes) log n
-            ∙ ap (sets log n) (take-append-drop i bytes);
-        place = omega (arith, t.fits, t.put.place, t.some, size, put_length t.put);
+            e
+            ∙ ap₂ (λ (b : List ℕ) (i : ℕ). take n log ++ b ++ drop (n + i) log) (take_all count some (omega (arith, some_length)))
+            (sym some_length)
+            ∙ sym (sets-eq some log n (omega (arith, some_length)))
+            ∙ some_all;
+        place = omega arith;
       }
 
 -- LOGS

@@ -57,15 +57,8 @@ fn record(log: &mut [u8], at: usize, bytes: &[u8]) -> usize
     requires { at ≤ length log.old }
     ensures { Logged log.old at bytes.now log.new result }
 {
-    let mut i = 0;
-    let mut to = at;
-    while to < log.len() {
-        if i == bytes.len() {
-            return to;
-        }
-        log[to] = bytes[i];
-        i += 1;
-        to += 1;
-    }
-    to
+    let count = bytes.len().min(log.len() - at);
+    let room = &mut log[at..at + count];
+    room.copy_from_slice(&bytes[..count]);
+    at + count
 }

@@ -4,7 +4,7 @@ use Rattle.model.specs.Basics.{before}
 use Rattle.model.specs.Limits.{max_buckets, label}
 use Rattle.model.specs.Table.{Arrays}
 use Rattle.table.specs.declared.Placing.{Placing}
-use Rattle.table.specs.declared.Slot.{Slot}
+use Rattle.model.specs.declared.given.Slot.{Slot}
 
 abbrev pub placing : ℕ → ℕ → ℕ → Placing
 placing first bins adjustment = record { first = first; bins = bins; adjustment = adjustment }

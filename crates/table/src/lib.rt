@@ -2,15 +2,18 @@
 // interval are placed; and the copying of an array.
 #![tactic(auto)]
 
+mod formed;
+
 ghost use Rattle.std.specs.Prelude.{ℕ, ◌+◌, ◌*◌, ◌^◌, min, ◌≤◌, ◌<◌, List, ◌≡◌, length, get_or, take};
 ghost use Rattle.model.specs.Lent.{TopsFormed, lent};
 ghost use Rattle.model.specs.Basics.{before as entry_before};
-ghost use Rattle.model.specs.Limits.{max_intervals};
 ghost use Rattle.model.specs.Table.{bins as bins_of, over};
 ghost use Rattle.reciprocal.specs.Divides.{Divides};
 ghost use Rattle.table.specs.Placing.{placing_of, Places, slot_of};
 
-use model::limits::{INTERVALS, LABEL};
+pub use formed::FormedTable;
+use model::given::Slot;
+use model::limits::LABEL;
 use model::table::Header;
 use reciprocal::{Reciprocal, quotient};
 
@@ -20,13 +23,6 @@ pub struct Placing {
     pub first: u32,
     pub bins: u32,
     pub adjustment: u32,
-}
-
-// A place: the bin and the position.
-#[derive(Clone, Copy)]
-pub struct Slot {
-    pub bin: u32,
-    pub position: u32,
 }
 
 // The entry before place i of xs; 0 stands before the first. The start of interval i, or the first bin of block i.
@@ -96,21 +92,10 @@ pub fn slot_by(placing: Placing, by: Reciprocal, bucket: u32) -> Slot
     }
 }
 
-// Copies the first `count` entries of an array over those of another: by way of a local one, which overlaps neither, so that
-// the compiler moves them as a block and drops the local array.
+// Copies the first `count` entries of an array over those of another.
 pub fn copy(from: &[u32], count: usize, to: &mut [u32])
-    requires { (count ≤ length from.now) × (count ≤ length to.old) × (count ≤ max_intervals) }
+    requires { (count ≤ length from.now) × (count ≤ length to.old) }
     ensures { to.new ≡ over (take count from.now) to.old }
 {
-    let mut own = [0u32; INTERVALS];
-    let mut i: usize = 0;
-    while i < count {
-        own[i] = from[i];
-        i += 1;
-    }
-    let mut j: usize = 0;
-    while j < count {
-        to[j] = own[j];
-        j += 1;
-    }
+    to[..count].copy_from_slice(&from[..count]);
 }

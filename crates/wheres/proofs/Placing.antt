@@ -1,7 +1,7 @@
 -- `where` lines, one after the other, on a map. Assumes nothing.
 use Prim.Native.Nat.{ℕ, ◌+◌, ◌-◌, ◌≤◌}
-use mathlib.Core.Path.{◌≡◌, refl, sym, ◌∙◌, ap, subst}
-use mathlib.Core.Bool.{true, false, false≢true}
+use mathlib.Core.Path.{◌≡◌, refl, sym, ◌∙◌, ap, ap₂, subst}
+use mathlib.Core.Bool.{false, false≢true}
 use mathlib.Core.List.{List}
 use native.Mathlib.Omega.{arith}
 use lib.ListN.{length, take, drop}
@@ -10,16 +10,17 @@ use Rattle.model.specs.Table.{Table, Arrays, table}
 use Rattle.model.specs.Sound.{Formed}
 use Rattle.model.specs.Console.{read, command_answer}
 use Rattle.model.specs.declared.command.Command.TheVariants.{Where}
+use Rattle.std.specs.Prelude.{Option, None, Some, is_some, unwrap_or}
 use Rattle.lines.specs.Words.{up_to_feed, AsksFor, AsksForNone, by_asked}
 use Rattle.lines.specs.declared.asked.Asked.{Asked}
-use Rattle.lines.specs.declared.asked.Asked.TheVariants.{Bucket}
 use Rattle.lines.proofs.Spans.{span_first}
-use Rattle.session.specs.Maps.{Maps, maps, is_empty, map_of, session, next, shown, is_list, Right}
+use Rattle.session.specs.Maps.{is_empty, map_of, session, next, shown, is_list}
+use Rattle.session.specs.declared.state.State.{State}
 use Rattle.print.specs.Numbers.{line_room}
-use Rattle.console.specs.Rack.{Rack, rack, held, answer_to, Served, where_answer}
-use Rattle.console.proofs.Serving.{shown_short}
+use Rattle.console.specs.Rack.{Rack, held, answer_to, Served, where_answer}
+use Rattle.console.proofs.Serving.{shown_short, held_state}
 use Rattle.console.proofs.Wheres.{where_next, where_answer_lem, where_lists_none}
-use Rattle.buffers.specs.Machine.{Sane}
+use Rattle.buffers.specs.Machine.{lists, row_of, Sane}
 use Rattle.buffers.specs.declared.Machine.{Machine}
 use Rattle.wheres.specs.Wheres.{Went, on_to, Shows, Places}
 use Rattle.wheres.specs.declared.Spot.{Spot}
@@ -27,10 +28,15 @@ use Rattle.wheres.proofs.Lines.{went_none, Went_then, line_went}
 
 -- ONE LINE
 
-module _ (m : Machine) (one two : Arrays) (t : Table) (s : Shows m (rack m.state one two) t) where
-  abbrev k : Rack
-  k = rack m.state one two
+-- with no list in progress there is no next row
+pub none_row : (m : Machine) → lists m ≡ false → row_of m ≡ 0
+none_row m e = at m.listing e
+  where
+    at : (o : Option ℕ) → is_some o ≡ false → unwrap_or o 0 ≡ 0
+    at None e = refl
+    at (Some q) e = absurd (false≢true (sym e))
 
+module _ (m : Machine) (k : Rack) (t : Table) (s : Shows m k t) where
   module _
       (bytes : List ℕ) (b end : ℕ) (a : AsksFor bytes m.from b end) (put y : ℕ) (out out' : List ℕ)
       (room : put + line_room ≤ length out) (place : y ≡ put + length (shown (where_answer t b)))
@@ -51,7 +57,7 @@ module _ (m : Machine) (one two : Arrays) (t : Table) (s : Shows m (rack m.state
           ∙ where_answer_lem (held k) b s.some
           ∙ ap (λ t. where_answer t b) s.map
 
-      served : Served k l put out (record { state = m.state; at = y; list = m.listing }) k out'
+      served : Served k l put out (record { at = y; list = lists m }) k out'
       served =
           record {
             maps = sym (ap (next (held k)) reads ∙ where_next (held k) b);
@@ -63,14 +69,15 @@ module _ (m : Machine) (one two : Arrays) (t : Table) (s : Shows m (rack m.state
       where_went : Went m k bytes put out (on_to m (end + 1)) k y out'
       where_went =
           line_went m k bytes end s.listing (omega (arith, a.ends, a.within)) a.ends put put out l
-          (record { state = m.state; at = y; list = m.listing }) one two out' (λ e. omega (arith, a.within)) refl s.sane room served
-          m.row (end + 1) refl (λ e. absurd (false≢true (sym s.listing ∙ e))) refl
+          (record { at = y; list = lists m }) k out' (λ e. omega (arith, a.within)) refl s.sane room served
+          (on_to m (end + 1)) refl refl (none_row m s.listing) refl refl
 
 -- LINES
 
 -- an answer that is a bucket
 pub asked_for
-    : {bytes : List ℕ} {from b end : ℕ} {r : Asked} → by_asked (AsksFor bytes from) (AsksForNone bytes from) r → r ≡ Bucket b end → AsksFor bytes from b end
+    : {bytes : List ℕ} {from : ℕ} {r : Option Asked} {a : Asked} → by_asked (AsksFor bytes from) (AsksForNone bytes from) r → r ≡ Some a
+    → AsksFor bytes from a.bucket a.end
 unfolding by_asked
 asked_for {bytes} {from} h e = subst (by_asked (AsksFor bytes from) (AsksForNone bytes from)) e h
 
@@ -90,9 +97,8 @@ places_none t bytes from put out within room =
     record {
       within = within;
       room = room;
-      went = λ m one two e s.
-          subst (λ n. Went m (rack m.state one two) bytes put out (on_to m n) (rack m.state one two) put out) e
-          (went_none m (rack m.state one two) bytes put out s.sane room (omega arith));
+      went = λ m k e s.
+          subst (λ n. Went m k bytes put out (on_to m n) k put out) e (went_none m k bytes put out s.sane room (omega arith));
     }
 
 pub places_more
@@ -111,21 +117,31 @@ places_more {t} {bytes} {from} {put} {out} {r} {out'} p {b} {end} {y} {next} {ou
             ap length stored,
             length-sets out' r.put (shown (where_answer t b)),
           );
-      went = λ m one two e s.
-          Went_then (p.went m one two e s)
-          (subst (λ n. Went (on_to m r.from) (rack m.state one two) bytes r.put out' (on_to m n) (rack m.state one two) y out'') (sym past)
-          (where_went (on_to m r.from) one two t (shows_on m (rack m.state one two) t r.from s) bytes b end a r.put y out' out'' room place stored));
+      went = λ m k e s.
+          Went_then (p.went m k e s)
+          (subst (λ n. Went (on_to m r.from) k bytes r.put out' (on_to m n) k y out'') (sym past)
+          (where_went (on_to m r.from) k t (shows_on m k t r.from s) bytes b end a r.put y out' out'' room place stored));
     }
 
 -- THE MAP
 
-module _
-    (m : Machine) (one two this other : Arrays) (sane : Sane m (rack m.state one two)) (some : is_empty m.state.stage ≡ false)
-    (h : held (rack m.state one two) ≡ maps m.state this other)
-  where
-    pub map_formed : Formed m.state.current this
-    map_formed = ((subst Right h sane.right).sound some).formed
+-- of a rack that has one, in the arrays `this`
+module _ (m : Machine) (k : Rack) (this : Arrays) (sane : Sane m k) (some : is_empty k.state.stage ≡ false) (h : this ≡ (held k).this) where
+  some_held : is_empty (held k).state.stage ≡ false
+  some_held = ap (λ (st : State). is_empty st.stage) (held_state k) ∙ some
 
-    pub map_shows : m.listing ≡ false → Shows m (rack m.state one two) (table m.state.current this)
-    unfolding map_of
-    map_shows none = record { listing = none; some = ap (λ (n : Maps). is_empty n.state.stage) h ∙ some; map = ap map_of h; sane = sane }
+  pub map_formed : Formed k.state.current this
+  map_formed =
+      subst (λ (st : State). Formed st.current this) (held_state k)
+      (subst (Formed (held k).state.current) (sym h) (sane.right.sound some_held).formed)
+
+  pub map_shows : lists m ≡ false → Shows m k (table k.state.current this)
+  unfolding map_of
+  map_shows none =
+      record { listing = none; some = some_held; map = ap₂ table (ap (λ (st : State). st.current) (held_state k)) (sym h); sane = sane }
+
+-- the lines answered on a table are answered on the same table
+pub places_same
+    : {t u : Table} {bytes : List ℕ} {from put : ℕ} {old : List ℕ} {r : Spot} {new : List ℕ}
+    → t ≡ u → Places t bytes from put old r new → Places u bytes from put old r new
+places_same {t} {u} {bytes} {from} {put} {old} {r} {new} e p = subst (λ t. Places t bytes from put old r new) e p

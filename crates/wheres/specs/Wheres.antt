@@ -1,11 +1,10 @@
 -- How a machine goes on in the bytes that are read, and over `where` lines. Assumes nothing.
 use Rattle.std.specs.Prelude.{ℕ, ◌≤◌, ◌≡◌, false, List, length, take}
-use Rattle.model.specs.Table.{Table, Arrays}
-use Rattle.model.specs.declared.table.Header.{Header}
+use Rattle.model.specs.Table.{Table}
 use Rattle.session.specs.Maps.{is_empty, map_of}
-use Rattle.console.specs.Rack.{Rack, rack, held}
+use Rattle.console.specs.Rack.{Rack, held}
 use Rattle.standing.specs.Standing.{Goes}
-use Rattle.buffers.specs.Machine.{stands, Sane}
+use Rattle.buffers.specs.Machine.{lists, stands, Sane}
 use Rattle.buffers.specs.declared.Machine.{Machine}
 use Rattle.wheres.specs.declared.Spot.{Spot}
 
@@ -23,11 +22,11 @@ pub record Went
 
 -- a machine at another place of its bytes
 abbrev pub on_to : Machine → ℕ → Machine
-on_to m from = record { state = m.state; listing = m.listing; row = m.row; from = from; size = m.size }
+on_to m from = record { listing = m.listing; from = from; size = m.size }
 
 -- a machine with no list in progress, whose map is t
 pub record Shows (m : Machine) (k : Rack) (t : Table) : Type 0 where
-  pub listing : m.listing ≡ false
+  pub listing : lists m ≡ false
   pub some : is_empty (held k).state.stage ≡ false
   pub map : map_of (held k) ≡ t
   pub sane : Sane m k
@@ -37,5 +36,4 @@ pub record Places (t : Table) (bytes : List ℕ) (from put : ℕ) (out : List �
   pub within : r.from ≤ length bytes
   pub room : r.put ≤ length out'
   pub went
-      : (m : Machine) (one two : Arrays) → m.from ≡ from → Shows m (rack m.state one two) t
-      → Went m (rack m.state one two) bytes put out (on_to m r.from) (rack m.state one two) r.put out'
+      : (m : Machine) (k : Rack) → m.from ≡ from → Shows m k t → Went m k bytes put out (on_to m r.from) k r.put out'

@@ -7,7 +7,8 @@ use native.Mathlib.Omega.{arith}
 use lib.Dec.{lit<, eqb}
 use lib.Pow.{pow_pos, mod-pow-add, shl_exact}
 use lib.Count.{ones, ones_cat}
-use lib.ListN.{get_or}
+use lib.ListN.{get_or, length, take, drop, length-take}
+use lib.Seq.{get_or-take, get_or-drop}
 use Rattle.model.specs.Basics.{bit, sum, count}
 use Rattle.model.proofs.Counts.{count_suc}
 use Rattle.written.specs.Written.{bit_of, written}
@@ -122,3 +123,21 @@ whole_word bits q l =
       first_buckets bits q 64 (le_refl 64),
       ap ones (mod-eq_of_lt l),
     )
+
+-- word i of a part of the words, which begins at word q
+module _ (bits : List ℕ) (q n i : ℕ) (h : i < length (take n (drop q bits))) where
+  part_word : get_or (take n (drop q bits)) i 0 ≡ get_or bits (q + i) 0
+  part_word = get_or-take n (drop q bits) i 0 (omega (arith, length-take n (drop q bits))) ∙ get_or-drop q bits i 0
+
+  -- its buckets with those before them
+  pub counted
+      : get_or bits (q + i) 0 < 2 ^ 64
+      → count (written bits) (64 * (q + (i + 1))) ≡ count (written bits) (64 * (q + i)) + ones (get_or (take n (drop q bits)) i 0)
+  counted l =
+      let next : q + (i + 1) ≡ q + i + 1 = omega arith in
+      omega (
+        arith,
+        whole_word bits (q + i) l,
+        ap (λ m. count (written bits) (64 * m)) next,
+        ap ones part_word,
+      )

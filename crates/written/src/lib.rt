@@ -16,7 +16,7 @@ fn below(bits: &[u64], x: u32) -> u32
     }
     let word = bits[(x / 64) as usize];
     let low = word % (1u64 << k);
-    u64::count_ones(low)
+    low.count_ones()
 }
 
 // How many of the buckets from a up to b are written: the words from a's to b's, and of b's those below b, but of a's not those
@@ -27,12 +27,9 @@ pub fn among(bits: &[u64], a: u32, b: u32) -> u32
 {
     let head = below(bits, a);
     let tail = below(bits, b);
-    let last = (b / 64) as usize;
     let mut n: u32 = 0;
-    let mut i = (a / 64) as usize;
-    while i < last {
-        n += u64::count_ones(bits[i]);
-        i += 1;
+    for word in &bits[(a / 64) as usize..(b / 64) as usize] {
+        n += word.count_ones();
     }
     n + tail - head
 }

@@ -1,0 +1,199 @@
+// A growth's rows and places, and the mover's job on them.
+use crate::growth::{Growth, Table, word_at};
+use crate::mover::{Calls, Mover};
+use crate::tally::Tally;
+use crate::words::{alike, fill, put, read, vacant, word};
+use model::table::Header;
+
+// The most words, numbers of a move list, or places.
+pub const LIST: usize = 13_865;
+
+pub type List = [u32; LIST];
+
+// The rows that so many numbers are.
+const ROWS: usize = 2_773;
+
+// The word that is due at a place.
+#[derive(Clone, Copy)]
+pub struct Due {
+    pub at: u32,
+    pub word: u32,
+}
+
+impl Due {
+    // At a place of a bucket: its word, if that is there.
+    pub fn new(bucket: u32, at: u32, there: bool) -> Due {
+        let word = if there { word(bucket) } else { vacant(at) };
+        Due { at, word }
+    }
+
+    pub fn is_met(&self, words: &[u32]) -> bool {
+        words.get(self.at as usize) == Some(&self.word)
+    }
+}
+
+// A row of a move list: its bucket, and whether that is written; where its word is, and what is due at its new place once the row is done.
+#[derive(Clone, Copy)]
+pub struct Row {
+    pub bucket: u32,
+    pub written: bool,
+    pub from: u32,
+    pub due: Due,
+}
+
+impl Row {
+    fn new<M: Mover>(numbers: &[u32; 5], capacity: u32, mover: &M) -> Row {
+        let [bucket, old_bin, old_position, bin, position] = *numbers;
+        let written = mover.is_written(bucket);
+        Row {
+            bucket,
+            written,
+            from: word_at(capacity, old_bin, old_position),
+            due: Due::new(bucket, word_at(capacity, bin, position), written),
+        }
+    }
+
+    // What a call does to the words.
+    pub fn copy(&self, words: &mut List) {
+        if self.written {
+            if let Some(word) = words.get(self.from as usize).copied() {
+                put(words, self.due.at, word);
+            }
+        }
+    }
+}
+
+// The rows of a move list, five numbers each.
+pub fn rows_of(list: &List) -> &[[u32; 5]] {
+    list.as_chunks::<5>().0
+}
+
+// The rows of a growth, and where the old buckets' words are.
+#[derive(Clone, Copy)]
+pub struct Lists {
+    rows: [Row; ROWS],
+    old: [Due; LIST],
+}
+
+// The words of the first buckets, at their places.
+pub fn places(table: &Table, header: Header, dues: &mut [Due]) {
+    for (bucket, due) in (0u32..).zip(dues.iter_mut()) {
+        *due = Due::new(bucket, table.word_of(header, bucket), true);
+    }
+}
+
+impl Lists {
+    pub fn new<M: Mover>(growth: &Growth<'_>, list: &List, mover: &M) -> Lists {
+        let due = Due { at: 0, word: 0 };
+        let row = Row {
+            bucket: 0,
+            written: false,
+            from: 0,
+            due,
+        };
+        let mut lists = Lists {
+            rows: [row; ROWS],
+            old: [due; LIST],
+        };
+        lists.list(growth.header.capacity, list, mover);
+        let count = growth.header.buckets as usize;
+        if let Some(old) = lists.old.get_mut(..count) {
+            places(growth.table, growth.header, old);
+        }
+        lists
+    }
+
+    fn list<M: Mover>(&mut self, capacity: u32, list: &List, mover: &M) {
+        for (row, numbers) in self.rows.iter_mut().zip(rows_of(list)) {
+            *row = Row::new(numbers, capacity, mover);
+        }
+    }
+
+    pub fn job<'g, 'a, M: Mover>(&'a self, growth: Growth<'g>, mover: M) -> Job<'g, 'a, M> {
+        let rows = (growth.total as usize).min(ROWS);
+        let old = (growth.header.buckets as usize).min(LIST);
+        Job {
+            calls: Calls { growth, mover },
+            rows: &self.rows[..rows],
+            old: &self.old[..old],
+        }
+    }
+}
+
+// A growth that the mover carries out.
+#[derive(Clone, Copy)]
+pub struct Job<'g, 'a, M> {
+    pub calls: Calls<'g, M>,
+    pub rows: &'a [Row],
+    pub old: &'a [Due],
+}
+
+impl<M: Mover> Job<'_, '_, M> {
+    // Before the first call: the word of every bucket, at its place.
+    pub fn begin(&self, words: &mut List) {
+        fill(words);
+        for due in self.old {
+            put(words, due.at, due.word);
+        }
+    }
+
+    // Every old bucket reads its word at its old place, and the rows below the mark have their due at their new one.
+    pub fn reads(&self, words: &List, mark: u32, tally: &mut Tally) {
+        read(words, self.old, tally);
+        let moved = self.rows.iter().take(mark as usize);
+        let missed = moved.filter(|row| !row.due.is_met(words)).count();
+        tally.compared(mark as usize, missed);
+    }
+
+    // What is due at the place of a bucket in the new map: its word, but of a blank one that moved what was there before.
+    fn due_in(&self, new: &Table, header: Header, bucket: u32, old: &Due) -> Due {
+        let at = new.word_of(header, bucket);
+        let there = at == old.at || self.calls.mover.is_written(bucket);
+        Due::new(bucket, at, there)
+    }
+
+    // The old buckets have their due at their places in the new map.
+    fn grown(&self, header: Header, new: &Table, words: &List, tally: &mut Tally) {
+        let mut missed = 0usize;
+        for (bucket, old) in (0u32..).zip(self.old) {
+            let met = self.due_in(new, header, bucket, old).is_met(words);
+            missed = missed.saturating_add(usize::from(!met));
+        }
+        tally.compared(self.old.len(), missed);
+    }
+}
+
+// A growth whose move list is accepted, and that list; the new map, unless the growth itself is refused; and a random number.
+#[derive(Clone, Copy)]
+pub struct Case<'g, 'a, 'n> {
+    pub growth: Growth<'g>,
+    pub list: &'a List,
+    pub new: Option<(Header, &'n Table)>,
+    pub seed: u32,
+}
+
+impl Case<'_, '_, '_> {
+    // The mover carries the growth out, uncut and cut. How many copies were seen, and in `words` what a run ends with.
+    pub fn carry<M: Mover>(&self, mover: M, words: &mut List, tally: &mut Tally) -> u32 {
+        let lists = Lists::new(&self.growth, self.list, &mover);
+        let job = lists.job(self.growth, mover);
+        job.begin(words);
+        let mut first = *words;
+        let copies = job.uncut(words, tally);
+        match self.new {
+            Some((header, new)) => {
+                job.grown(header, new, words, tally);
+                lists
+                    .job(self.growth.longer(), mover)
+                    .every_cut(&mut first, words, tally);
+            }
+            None => {
+                job.cut_some(&mut first, tally);
+                alike(&first, words, self.growth.words, tally);
+                *words = first;
+            }
+        }
+        job.calls.edges(words, tally);
+        copies
+    }
+}

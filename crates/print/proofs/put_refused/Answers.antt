@@ -1,0 +1,7 @@
+use Rattle.model.specs.Console.{text, line}
+use Rattle.print.specs.Numbers.{numbers, line_of}
+use Rattle.print.proofs.put_refused.Goals as goal
+
+pub returns : goal.returns
+unfolding text line numbers line_of
+returns c = c.put_line.ensures

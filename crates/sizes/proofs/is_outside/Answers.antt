@@ -1,0 +1,12 @@
+use borrow.Author.Tests.{eq-eqb, ne_eqb}
+use Rattle.model.specs.Basics.{◌or◌}
+use Rattle.model.specs.Refusal.{outside}
+use Rattle.sizes.proofs.is_outside.Goals as goal
+
+pub returns-then-x-eq0 : goal.returns-then-x-eq0
+unfolding outside ◌or◌
+returns-then-x-eq0 c = simp (eq-eqb _ _ c.if-x-eq0.true)
+
+pub returns-else-x-eq0 : goal.returns-else-x-eq0
+unfolding outside ◌or◌
+returns-else-x-eq0 c = simp (ne_eqb _ _ c.if-x-eq0.false)
