@@ -13,16 +13,18 @@ pub struct Arrays {
 }
 
 impl Arrays {
-    ghost use Rattle.std.specs.Prelude.{◌≡◌, false};
+    ghost use Rattle.std.specs.Prelude.{◌≡◌, false, replicate};
+    ghost use Rattle.model.specs.Limits.{max_blocks, max_intervals};
     ghost use Rattle.model.specs.Refusal.{room_short};
-    ghost use Rattle.model.specs.Table.{table};
+    ghost use Rattle.model.specs.Table.{arrays, table};
     ghost use Rattle.model.specs.Sound.{Formed};
     ghost use Rattle.table.specs.Formed.{table_of};
     ghost use Rattle.session.specs.Held.{arrays_of};
 
     // Arrays of zeros: there is room for any table.
     pub fn zero() -> Arrays
-        ensures { room_short (arrays_of result) ≡ false }
+        ensures room { room_short (arrays_of result) ≡ false }
+        ensures zeros { arrays_of result ≡ arrays (replicate max_blocks 0) (replicate max_intervals 0) (replicate max_intervals 0) (replicate max_intervals 0) }
     {
         Arrays {
             tops: [0; BLOCKS],

@@ -11,8 +11,8 @@ invariant_of-result c =
     record {
       right =
           record {
-            room = c.zero.ensures;
-            other_room = c.zero-2.ensures;
+            room = c.zero.ensures.room;
+            other_room = c.zero-2.ensures.room;
             sound = λ e. absurd (true≢false e);
             grown = λ e. absurd (false≢true e);
           };
