@@ -2,21 +2,26 @@
 use Prim.Native.Nat.{ℕ, ◌+◌, ◌-◌, ◌≤◌, ◌<◌}
 use Rattle.std.specs.Prelude.{min}
 use mathlib.Core.Path.{◌≡◌, refl, sym, ◌∙◌, ap, ap₂}
-use mathlib.Core.Bool.{false}
+use mathlib.Core.Bool.{Bool, true, false, true≢false, false≢true}
 use mathlib.Core.List.{List, [], ◌∷◌, ◌++◌}
 use native.Mathlib.Numerals.{add-one}
 use native.Mathlib.Omega.{arith}
 use lib.ListN.{length, set, take, drop, length-take, length-drop, length-set, drop_of_length-le}
 use lib.Seq.{take-add, take-suc-set, length-take-le, drop-append-le}
-use Rattle.model.specs.Table.{over}
+use Rattle.model.specs.Basics.{if◌then◌otherwise◌}
+use Rattle.model.specs.Table.{Table, Arrays, over}
+use Rattle.model.specs.Refusal.{room_short}
 use Rattle.std.specs.List.{copy_within}
 use Rattle.std.proofs.lemmas.List.{drop-take, take-take, take_min}
 use Rattle.lines.specs.Words.{up_to}
-use Rattle.model.specs.Console.{empty}
-use Rattle.session.specs.Maps.{session}
-use Rattle.console.specs.Rack.{Rack, held}
+use Rattle.model.specs.Console.{empty, no_map}
+use Rattle.session.specs.Maps.{Maps, maps, is_empty, is_grown, session_at, session, Right}
+use Rattle.session.specs.declared.state.Stage.{Stage}
+use Rattle.session.specs.declared.state.Stage.TheVariants as stage
+use Rattle.session.specs.declared.state.State.{State}
+use Rattle.console.specs.Rack.{Rack, rack, held}
 use Rattle.standing.specs.Standing.{heard}
-use Rattle.buffers.specs.Machine.{kept_bytes, lists, row_of, stands, bytes_of, Sane, Begins, Receives}
+use Rattle.buffers.specs.Machine.{kept_bytes, lists, row_of, stands, bytes_of, Sane, Begins, BeginsWith, Receives}
 use Rattle.buffers.specs.declared.Machine.{Machine}
 
 -- a machine that begins, by a rack with no map
@@ -30,6 +35,58 @@ begins r k f z l q e sane =
       ready = λ block. record { sane = sane; from = omega arith; size = omega arith };
       rests = λ block. record { listing = l; rest = rw (f, z); few = omega arith };
     }
+
+-- whichever of two arrays a rack's map is in
+either : (P : Maps → Type 0) (flipped : Bool) (m n : Maps) → P m → P n → P (if flipped then m otherwise n)
+unfolding if◌then◌otherwise◌
+either P true m n p q = p
+either P false m n p q = q
+
+held_either
+    : (P : Maps → Type 0) (st : State) (one two : Arrays) → P (maps st two one) → P (maps st one two) → P (held (rack st one two))
+unfolding held
+held_either P st one two p q = either P st.flipped (maps st two one) (maps st one two) p q
+
+-- a state with no map: by its session, which has none
+no_map_at : (g : Stage) (t u : Table) → session_at g t u ≡ empty → g ≡ stage.Empty
+unfolding session_at no_map
+no_map_at stage.Empty t u e = refl
+no_map_at stage.Fresh t u e = absurd (false≢true (ap no_map e))
+no_map_at stage.Grown t u e = absurd (false≢true (ap no_map e))
+
+pub no_map_held : (st : State) (one two : Arrays) → session (held (rack st one two)) ≡ empty → st.stage ≡ stage.Empty
+unfolding session
+no_map_held st one two =
+    held_either (λ m. session m ≡ empty → st.stage ≡ stage.Empty) st one two (no_map_at st.stage _ _) (no_map_at st.stage _ _)
+
+-- a machine that begins, by a state with no map
+module _ (r : Machine) (st : State) (f : r.from ≡ 0) (z : r.size ≡ 0) (l : lists r ≡ false) (q : row_of r ≡ 0) (e : st.stage ≡ stage.Empty)
+  where
+    begins_session : (one two : Arrays) → session (held (rack st one two)) ≡ empty
+    unfolding session session_at
+    begins_session one two = held_either (λ m. session m ≡ empty) st one two (rw e refl) (rw e refl)
+
+    begins_right : (one two : Arrays) → room_short one ≡ false → room_short two ≡ false → Right (held (rack st one two))
+    unfolding is_empty is_grown
+    begins_right one two x y =
+        held_either Right st one two
+        (record { room = y; other_room = x; sound = λ n. absurd (true≢false (sym (ap is_empty e) ∙ n)); grown = λ n. absurd (false≢true (sym (ap is_grown e) ∙ n)) })
+        (record { room = x; other_room = y; sound = λ n. absurd (true≢false (sym (ap is_empty e) ∙ n)); grown = λ n. absurd (false≢true (sym (ap is_grown e) ∙ n)) })
+
+    pub begins_with : BeginsWith r st
+    unfolding stands up_to
+    begins_with =
+        record {
+          stands = λ one two block. rw (f, z, l, q, begins_session one two);
+          ready =
+              λ one two block x y.
+              record {
+                sane = record { right = begins_right one two x y; row = λ n. absurd (false≢true (sym l ∙ n)) };
+                from = omega arith;
+                size = omega arith;
+              };
+          rests = λ block. record { listing = l; rest = rw (f, z); few = omega arith };
+        }
 
 -- BYTES RECEIVED
 

@@ -1,8 +1,11 @@
 -- A machine as the code holds it. Assumes nothing.
 use Rattle.std.specs.Prelude.{ℕ, ◌≤◌, ◌≡◌, Bool, true, false, is_some, unwrap_or, List, length, take, drop}
 use Rattle.lines.specs.Words.{up_to_feed}
+use Rattle.model.specs.Table.{Arrays}
+use Rattle.model.specs.Refusal.{room_short}
 use Rattle.session.specs.Maps.{session, Right}
-use Rattle.console.specs.Rack.{Rack, held, moves_in}
+use Rattle.session.specs.declared.state.State.{State}
+use Rattle.console.specs.Rack.{Rack, rack, held, moves_in}
 use Rattle.standing.specs.Standing.{Standing, beginning, received}
 use Rattle.buffers.specs.declared.Machine.{Machine}
 
@@ -52,6 +55,14 @@ pub record Rests (m : Machine) (block : List ℕ) : Type 0 where
 pub record Begins (r : Machine) (k : Rack) : Type 0 where
   pub stands : (block : List ℕ) → stands r k (bytes_of r block) ≡ beginning
   pub ready : (block : List ℕ) → Ready r k block
+  pub rests : (block : List ℕ) → Rests r block
+
+-- a machine that begins with a state, whatever the two tables and the block hold: both tables have room for any table
+pub record BeginsWith (r : Machine) (st : State) : Type 0 where
+  pub stands : (one two : Arrays) (block : List ℕ) → stands r (rack st one two) (bytes_of r block) ≡ beginning
+  pub ready
+      : (one two : Arrays) (block : List ℕ) → room_short one ≡ false → room_short two ≡ false
+      → Ready r (rack st one two) block
   pub rests : (block : List ℕ) → Rests r block
 
 -- `got` bytes received behind those that are read, whatever the tables hold

@@ -14,11 +14,12 @@ pub struct Program {
 }
 
 impl Program {
-    ghost use Rattle.buffers.specs.Machine.{Begins};
+    ghost use Rattle.buffers.specs.Machine.{Begins, BeginsWith};
 
     // No map yet, and nothing read.
     pub fn start() -> Program
-        ensures { Begins result.machine (rack_of result.rack) }
+        ensures begins { Begins result.machine (rack_of result.rack) }
+        ensures tables { BeginsWith result.machine result.rack.state }
     {
         Program {
             machine: Machine {

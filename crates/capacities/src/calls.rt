@@ -1,6 +1,5 @@
 // A lent table, and what is asked of it.
 use crate::print::{line, numbers};
-use model::limits::{BLOCKS, INTERVALS};
 use model::reply::{PlaceReply, TableReply};
 use model::table::Header;
 use std::io;
@@ -77,10 +76,10 @@ impl Lent<'_> {
     }
 
     fn expand(self, rt: &impl Print, buckets: u32, bins: u32) -> io::Result<()> {
-        let mut tops = [7u32; BLOCKS];
-        let mut ends = [7u32; INTERVALS];
-        let mut blocks = [7u32; INTERVALS];
-        let mut adjustments = [7u32; INTERVALS];
+        let mut tops = [7u32; 65];
+        let mut ends = [7u32; 2081];
+        let mut blocks = [7u32; 2081];
+        let mut adjustments = [7u32; 2081];
         let reply = irr::expand(
             self.header,
             self.tops,

@@ -3,18 +3,19 @@ ghost use Rattle.std.specs.Prelude.{◌<◌};
 
 use crate::calls::{Lent, placed};
 use crate::keep::{loaded, with_room};
-use model::limits::MAX_CAPACITY;
 use model::table::Header;
 use std::io;
 
-// Above the most buckets, and above the greatest capacity.
-const OVER: u32 = MAX_CAPACITY + 1;
+// The most buckets and the greatest capacity, and one more.
+const MOST: u32 = 1_000_000_000;
+
+const OVER: u32 = 1_000_000_001;
 
 // The table of (10, 2): 5 buckets in every bin, and the label's 8 positions.
 const SMALL: Lent<'static> = Lent {
     header: Header {
         buckets: 10,
-        capacity: MAX_CAPACITY,
+        capacity: MOST,
         block_count: 1,
         interval_count: 1,
     },
@@ -26,7 +27,7 @@ const SMALL: Lent<'static> = Lent {
 
 const GROWN_HEADER: Header = Header {
     buckets: 12,
-    capacity: MAX_CAPACITY,
+    capacity: MOST,
     block_count: 2,
     interval_count: 2,
 };
@@ -176,7 +177,7 @@ pub fn files(rt: &impl Print) -> io::Result<()> {
         rt,
         "load (10, 2) with capacity 1000000000",
         &SMALL_FILE,
-        MAX_CAPACITY,
+        MOST,
     )?;
     with_room(
         rt,

@@ -3,7 +3,7 @@ ghost use Rattle.std.specs.Prelude.{◌<◌};
 
 use crate::calls::Lent;
 use crate::print::line;
-use model::limits::{BLOCKS, INTERVALS, MAX_CAPACITY};
+use model::limits::MAX_CAPACITY;
 use model::table::Header;
 use std::io;
 
@@ -45,9 +45,9 @@ pub fn loaded(
     capacity: u32,
     tops: &mut [u32],
 ) -> io::Result<()> {
-    let mut ends = [9u32; INTERVALS];
-    let mut blocks = [9u32; INTERVALS];
-    let mut adjustments = [9u32; INTERVALS];
+    let mut ends = [9u32; 2081];
+    let mut blocks = [9u32; 2081];
+    let mut adjustments = [9u32; 2081];
     let reply = irr::load(
         file,
         capacity,
@@ -71,7 +71,7 @@ pub fn loaded(
 }
 
 pub fn with_room(rt: &impl Print, words: &str, file: &[u8], capacity: u32) -> io::Result<()> {
-    let mut tops = [9u32; BLOCKS];
+    let mut tops = [9u32; 65];
     loaded(rt, words, file, capacity, &mut tops)?;
     line(rt, "  tops", &tops[..3])
 }

@@ -1,5 +1,7 @@
 // Runs of the mover with cuts. In the copy: its destination holds its old word, the new one or junk, and the mark is old. In the
 // storing of the mark: it is old or new.
+ghost use Rattle.cut_tests.specs.Counts.{Keeps};
+
 use crate::job::{Job, List, Row};
 use crate::mover::Mover;
 use crate::tally::{Tally, add};
@@ -47,7 +49,9 @@ impl<M: Mover> Job<'_, '_, M> {
     }
 
     // A call that is cut, if it can be. The mark that is stored.
-    fn cut(&self, words: &mut List, mark: u32, cut: Cut, tally: &mut Tally) -> u32 {
+    fn cut(&self, words: &mut List, mark: u32, cut: Cut, tally: &mut Tally) -> u32
+        ensures { Keeps tally.old tally.new }
+    {
         let Some(row) = self.row_to_cut(mark, cut) else {
             return mark;
         };
@@ -69,7 +73,9 @@ impl<M: Mover> Job<'_, '_, M> {
     }
 
     // A run to the end, of which the first call is cut, if it can be, or the first two are. After a new mark the second is the next row's.
-    fn cut_run(&self, start: Start<'_, '_>, first: Cut, second: Option<Cut>, tally: &mut Tally) {
+    fn cut_run(&self, start: Start<'_, '_>, first: Cut, second: Option<Cut>, tally: &mut Tally)
+        ensures { Keeps tally.old tally.new }
+    {
         if self.row_to_cut(start.mark, first).is_none() {
             return;
         }
@@ -84,21 +90,27 @@ impl<M: Mover> Job<'_, '_, M> {
     }
 
     // A cut, alone and with every other behind it.
-    fn cut_pairs(&self, start: Start<'_, '_>, first: Cut, tally: &mut Tally) {
+    fn cut_pairs(&self, start: Start<'_, '_>, first: Cut, tally: &mut Tally)
+        ensures { Keeps tally.old tally.new }
+    {
         for second in Cut::ALL {
             self.cut_run(start, first, Some(second), tally);
         }
         self.cut_run(start, first, None, tally);
     }
 
-    fn cut_runs(&self, start: Start<'_, '_>, tally: &mut Tally) {
+    fn cut_runs(&self, start: Start<'_, '_>, tally: &mut Tally)
+        ensures { Keeps tally.old tally.new }
+    {
         for first in Cut::ALL {
             self.cut_pairs(start, first, tally);
         }
     }
 
     // The runs that are cut at every mark, against the words that an uncut run ends with.
-    pub fn every_cut(&self, words: &mut List, right: &List, tally: &mut Tally) {
+    pub fn every_cut(&self, words: &mut List, right: &List, tally: &mut Tally)
+        ensures { Keeps tally.old tally.new }
+    {
         for mark in 0..self.calls.growth.total {
             let start = Start { words, right, mark };
             self.cut_runs(start, tally);
@@ -107,7 +119,9 @@ impl<M: Mover> Job<'_, '_, M> {
     }
 
     // Every hundredth copy leaves junk, and then the mark is not stored.
-    pub fn cut_some(&self, words: &mut List, tally: &mut Tally) {
+    pub fn cut_some(&self, words: &mut List, tally: &mut Tally)
+        ensures { Keeps tally.old tally.new }
+    {
         let total = self.calls.growth.total;
         for mark in 0..total {
             if mark % 100 == 0 {

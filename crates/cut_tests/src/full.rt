@@ -1,5 +1,7 @@
 // A table whose growth is refused by 8, 2,080 intervals of 4 buckets in turn in two blocks of one bin: the mover carries it out. And
 // refused tables.
+ghost use Rattle.cut_tests.specs.Counts.{Keeps};
+
 use crate::growth::{Growth, Table};
 use crate::job::{Case, LIST};
 use crate::mover::Player;
@@ -38,7 +40,9 @@ fn asked(table: &Table, buckets: u32, capacity: u32) -> Growth<'_> {
 }
 
 // 11 and 30 come before 1, as they do before 40, 42 and 41.
-fn headed<P: Player>(player: &P, growth: Growth<'_>, number: u32, tally: &mut Tally) {
+fn headed<P: Player>(player: &P, growth: Growth<'_>, number: u32, tally: &mut Tally)
+    ensures { Keeps tally.old tally.new }
+{
     player.refused(&growth, number, tally);
     let mut none = growth;
     none.buckets = 0;
@@ -46,7 +50,9 @@ fn headed<P: Player>(player: &P, growth: Growth<'_>, number: u32, tally: &mut Ta
 }
 
 // The growth is refused, but its move list is not.
-fn listed<P: Player>(player: &P, growth: Growth<'_>, tally: &mut Tally) {
+fn listed<P: Player>(player: &P, growth: Growth<'_>, tally: &mut Tally)
+    ensures { Keeps tally.old tally.new }
+{
     let mut new = Table::new();
     tally.same(growth.expand(&mut new).refusal, 8);
     tally.refused_by(8);
@@ -63,7 +69,9 @@ fn listed<P: Player>(player: &P, growth: Growth<'_>, tally: &mut Tally) {
     player.carry(&case, tally);
 }
 
-pub fn play<P: Player>(player: &P, tally: &mut Tally) {
+pub fn play<P: Player>(player: &P, tally: &mut Tally)
+    ensures { Keeps tally.old tally.new }
+{
     let table = table();
     let growth = asked(&table, 8_320, 4_168);
     listed(player, growth, tally);

@@ -1,5 +1,6 @@
 // A history: a fresh map and growths of it, each carried out by the mover, without a cut and with every cut.
 ghost use Rattle.std.specs.Prelude.{◌<◌, ◌≤◌};
+ghost use Rattle.cut_tests.specs.Counts.{Keeps};
 
 use crate::chance::{below, draw};
 use crate::growth::{Growth, Table};
@@ -70,7 +71,9 @@ impl Map {
     }
 
     // One growth, which may be refused.
-    fn grow<P: Player>(&mut self, player: &P, plan: Plan, tally: &mut Tally) {
+    fn grow<P: Player>(&mut self, player: &P, plan: Plan, tally: &mut Tally)
+        ensures { Keeps tally.old tally.new }
+    {
         let growth = self.asked(plan);
         let mut list = [u32::MAX; LIST];
         let reply = growth.moves(&mut list);
@@ -98,7 +101,9 @@ fn carry<P: Player>(
     new: (Header, &Table),
     seed: u32,
     tally: &mut Tally,
-) {
+)
+    ensures { Keeps tally.old tally.new }
+{
     let case = Case {
         growth,
         list,
@@ -109,7 +114,9 @@ fn carry<P: Player>(
 }
 
 // Growths of maps with 0, 1 and 63 buckets modulo 64, and growths after which bits would need more words.
-fn edge(growth: &Growth<'_>, tally: &mut Tally) {
+fn edge(growth: &Growth<'_>, tally: &mut Tally)
+    ensures { Keeps tally.old tally.new }
+{
     match growth.header.buckets % 64 {
         0 => add(&mut tally.edges[0], 1),
         1 => add(&mut tally.edges[1], 1),
@@ -122,7 +129,9 @@ fn edge(growth: &Growth<'_>, tally: &mut Tally) {
 }
 
 // An accepted growth, to the table `new`. Its header.
-fn accepted(growth: &Growth<'_>, new: &mut Table, tally: &mut Tally) -> Header {
+fn accepted(growth: &Growth<'_>, new: &mut Table, tally: &mut Tally) -> Header
+    ensures { Keeps tally.old tally.new }
+{
     let reply = growth.expand(new);
     tally.same(reply.refusal, 0);
     tally.same(reply.moved, growth.total);
@@ -138,7 +147,9 @@ pub fn play<P: Player>(
     bins: u32,
     plan: Plan,
     tally: &mut Tally,
-) -> u32 {
+) -> u32
+    ensures { Keeps tally.old tally.new }
+{
     add(&mut tally.histories, 1);
     let mut table = Table::new();
     let reply = table.initial(buckets, bins, taken(buckets, bins));
@@ -156,7 +167,9 @@ pub fn play<P: Player>(
 }
 
 // So many random histories.
-pub fn random<P: Player>(player: &P, seed: u32, histories: u32, plan: Plan, tally: &mut Tally) {
+pub fn random<P: Player>(player: &P, seed: u32, histories: u32, plan: Plan, tally: &mut Tally)
+    ensures { Keeps tally.old tally.new }
+{
     let mut seed = seed;
     for _ in 0..histories {
         let buckets = below(seed, 60) + 1;

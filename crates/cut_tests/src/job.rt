@@ -1,4 +1,7 @@
 // A growth's rows and places, and the mover's job on them.
+ghost use Rattle.std.specs.Prelude.{◌≡◌, ◌/◌, ◌≤◌, length};
+ghost use Rattle.std.specs.Simd.{first_chunks};
+
 use crate::growth::{Growth, Table, word_at};
 use crate::mover::{Calls, Mover};
 use crate::tally::Tally;
@@ -21,13 +24,20 @@ pub struct Due {
 }
 
 impl Due {
+    ghost use Rattle.cut_tests.specs.Rows.{due_of, meets};
+
     // At a place of a bucket: its word, if that is there.
-    pub fn new(bucket: u32, at: u32, there: bool) -> Due {
+    fn new(bucket: u32, at: u32, there: bool) -> Due
+        ensures { result ≡ due_of bucket at there }
+    {
         let word = if there { word(bucket) } else { vacant(at) };
         Due { at, word }
     }
 
-    pub fn is_met(&self, words: &[u32]) -> bool {
+    // Whether its word is at its place.
+    pub fn is_met(&self, words: &[u32]) -> bool
+        ensures { result ≡ meets words.now self.now }
+    {
         words.get(self.at as usize) == Some(&self.word)
     }
 }
@@ -42,7 +52,11 @@ pub struct Row {
 }
 
 impl Row {
-    fn new<M: Mover>(numbers: &[u32; 5], capacity: u32, mover: &M) -> Row {
+    ghost use Rattle.cut_tests.specs.Rows.{row_of, copied};
+
+    fn new<M: Mover>(numbers: &[u32; 5], capacity: u32, mover: &M) -> Row
+        ensures { result ≡ row_of capacity result.written numbers.now }
+    {
         let [bucket, old_bin, old_position, bin, position] = *numbers;
         let written = mover.is_written(bucket);
         Row {
@@ -54,7 +68,9 @@ impl Row {
     }
 
     // What a call does to the words.
-    pub fn copy(&self, words: &mut List) {
+    pub fn copy(&self, words: &mut List)
+        ensures { words.new ≡ copied self.now words.old }
+    {
         if self.written {
             if let Some(word) = words.get(self.from as usize).copied() {
                 put(words, self.due.at, word);
@@ -64,26 +80,29 @@ impl Row {
 }
 
 // The rows of a move list, five numbers each.
-pub fn rows_of(list: &List) -> &[[u32; 5]] {
+pub fn rows_of(list: &List) -> &[[u32; 5]]
+    ensures { result.now ≡ first_chunks 5 (length list.now / 5) list.now }
+{
     list.as_chunks::<5>().0
 }
 
 // The rows of a growth, and where the old buckets' words are.
 #[derive(Clone, Copy)]
 pub struct Lists {
-    rows: [Row; ROWS],
-    old: [Due; LIST],
-}
-
-// The words of the first buckets, at their places.
-pub fn places(table: &Table, header: Header, dues: &mut [Due]) {
-    for (bucket, due) in (0u32..).zip(dues.iter_mut()) {
-        *due = Due::new(bucket, table.word_of(header, bucket), true);
-    }
+    pub rows: [Row; ROWS],
+    pub old: [Due; LIST],
 }
 
 impl Lists {
-    pub fn new<M: Mover>(growth: &Growth<'_>, list: &List, mover: &M) -> Lists {
+    ghost use Rattle.std.specs.Prelude.{take};
+    ghost use Rattle.cut_tests.specs.Rows.{RowsOf, places_of};
+
+    // The rows of a growth's move list, and the old buckets' words at their places; all zeros where those are too many.
+    pub fn new<M: Mover>(growth: &Growth<'_>, list: &List, mover: &M) -> Lists
+        ensures rows { RowsOf growth.now.header.capacity (first_chunks 5 (length list.now / 5) list.now) result.rows }
+        ensures old { growth.now.header.buckets ≤ 13865 →
+            take growth.now.header.buckets result.old ≡ places_of growth.now.table.now growth.now.header growth.now.header.buckets }
+    {
         let due = Due { at: 0, word: 0 };
         let row = Row {
             bucket: 0,
@@ -97,19 +116,42 @@ impl Lists {
         };
         lists.list(growth.header.capacity, list, mover);
         let count = growth.header.buckets as usize;
-        if let Some(old) = lists.old.get_mut(..count) {
-            places(growth.table, growth.header, old);
+        if count <= LIST {
+            lists.places(growth.table, growth.header, count);
         }
         lists
     }
 
-    fn list<M: Mover>(&mut self, capacity: u32, list: &List, mover: &M) {
-        for (row, numbers) in self.rows.iter_mut().zip(rows_of(list)) {
-            *row = Row::new(numbers, capacity, mover);
+    // The words of so many first buckets, at their places.
+    fn places(&mut self, table: &Table, header: Header, count: usize)
+        requires { count ≤ 13865 }
+        ensures rows { self.exit.now.rows ≡ self.entry.now.rows }
+        ensures old { take count self.exit.now.old ≡ places_of table.now header count }
+    {
+        for at in 0..count {
+            let bucket = at as u32;
+            self.old[at] = Due::new(bucket, table.word_of(header, bucket), true);
         }
     }
 
-    pub fn job<'g, 'a, M: Mover>(&'a self, growth: Growth<'g>, mover: M) -> Job<'g, 'a, M> {
+    // The rows of a move list.
+    fn list<M: Mover>(&mut self, capacity: u32, list: &List, mover: &M)
+        ensures rows { RowsOf capacity (first_chunks 5 (length list.now / 5) list.now) self.new.rows }
+        ensures old { self.exit.now.old ≡ self.entry.now.old }
+    {
+        for (at, numbers) in rows_of(list).iter().enumerate() {
+            if at < ROWS {
+                self.rows[at] = Row::new(numbers, capacity, mover);
+            }
+        }
+    }
+
+    // The mover's job on as many of them as the growth moves, and as it has buckets.
+    pub fn job<'g, 'a, M: Mover>(&'a self, growth: Growth<'g>, mover: M) -> Job<'g, 'a, M>
+        ensures calls { result.calls ≡ record { growth = growth.entry; mover = mover } }
+        ensures rows { result.rows.now ≡ take growth.entry.total self.now.rows }
+        ensures old { result.old.now ≡ take growth.entry.header.buckets self.now.old }
+    {
         let rows = (growth.total as usize).min(ROWS);
         let old = (growth.header.buckets as usize).min(LIST);
         Job {
@@ -129,8 +171,16 @@ pub struct Job<'g, 'a, M> {
 }
 
 impl<M: Mover> Job<'_, '_, M> {
+    ghost use Rattle.std.specs.Prelude.{◌+◌, ◌-◌, ◌^◌, min, map, fold, take, slice_set};
+    ghost use Rattle.std.specs.List.{range_with_len};
+    ghost use Rattle.cut_tests.specs.Words.{vacant_word};
+    ghost use Rattle.cut_tests.specs.Rows.{unmet, unmet_rows};
+    ghost use Rattle.cut_tests.specs.Counts.{Keeps, others};
+
     // Before the first call: the word of every bucket, at its place.
-    pub fn begin(&self, words: &mut List) {
+    pub fn begin(&self, words: &mut List)
+        ensures { words.new ≡ fold (λ ws due. slice_set ws due.at due.word) (map vacant_word (range_with_len 0 (length words.old))) self.now.old.now }
+    {
         fill(words);
         for due in self.old {
             put(words, due.at, due.word);
@@ -138,11 +188,22 @@ impl<M: Mover> Job<'_, '_, M> {
     }
 
     // Every old bucket reads its word at its old place, and the rows below the mark have their due at their new one.
-    pub fn reads(&self, words: &List, mark: u32, tally: &mut Tally) {
+    pub fn reads(&self, words: &List, mark: u32, tally: &mut Tally)
+        ensures keeps { Keeps tally.old tally.new }
+        ensures others { others tally.new ≡ others tally.old }
+        ensures comparisons { tally.new.comparisons ≡ min (tally.old.comparisons + length self.now.old.now + mark) (2 ^ 64 - 1) }
+        ensures failed { tally.new.failed ≡ min (tally.old.failed + unmet words.now self.now.old.now + unmet_rows words.now (take mark self.now.rows.now)) (2 ^ 64 - 1) }
+    {
         read(words, self.old, tally);
+        tally.compared(mark as usize, self.missed(words, mark));
+    }
+
+    // How many of the rows below a mark have not their due.
+    fn missed(&self, words: &[u32], mark: u32) -> usize
+        ensures { result ≡ unmet_rows words.now (take mark self.now.rows.now) }
+    {
         let moved = self.rows.iter().take(mark as usize);
-        let missed = moved.filter(|row| !row.due.is_met(words)).count();
-        tally.compared(mark as usize, missed);
+        moved.filter(|row| !row.due.is_met(words)).count()
     }
 
     // What is due at the place of a bucket in the new map: its word, but of a blank one that moved what was there before.
@@ -153,7 +214,9 @@ impl<M: Mover> Job<'_, '_, M> {
     }
 
     // The old buckets have their due at their places in the new map.
-    fn grown(&self, header: Header, new: &Table, words: &List, tally: &mut Tally) {
+    fn grown(&self, header: Header, new: &Table, words: &List, tally: &mut Tally)
+        ensures { Keeps tally.old tally.new }
+    {
         let mut missed = 0usize;
         for (bucket, old) in (0u32..).zip(self.old) {
             let met = self.due_in(new, header, bucket, old).is_met(words);
@@ -173,8 +236,12 @@ pub struct Case<'g, 'a, 'n> {
 }
 
 impl Case<'_, '_, '_> {
+    ghost use Rattle.cut_tests.specs.Counts.{Keeps};
+
     // The mover carries the growth out, uncut and cut. How many copies were seen, and in `words` what a run ends with.
-    pub fn carry<M: Mover>(&self, mover: M, words: &mut List, tally: &mut Tally) -> u32 {
+    pub fn carry<M: Mover>(&self, mover: M, words: &mut List, tally: &mut Tally) -> u32
+        ensures { Keeps tally.old tally.new }
+    {
         let lists = Lists::new(&self.growth, self.list, &mover);
         let job = lists.job(self.growth, mover);
         job.begin(words);

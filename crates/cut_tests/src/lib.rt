@@ -21,7 +21,6 @@ pub use growth::{Growth, Table};
 pub use history::{Plan, play, random};
 pub use job::{Case, LIST, List, Lists, rows_of};
 pub use mover::{Call, Calls, Mover, Player};
-pub use print::print_cuts;
 pub use refusal::wide;
 pub use tally::{Tally, add};
 pub use words::alike;

@@ -1,5 +1,8 @@
 // The mover that a program tests, its calls, and what the program puts a growth through.
-ghost use Rattle.std.specs.Prelude.{◌≡◌};
+ghost use Rattle.std.specs.Prelude.{◌≡◌, ◌+◌, ◌-◌, ◌^◌, ◌≤◌, ◌==◌, min, not, nat_lt};
+ghost use Rattle.std.specs.Int.{from_bool};
+ghost use Rattle.cut_tests.specs.Counts.{Keeps, counted};
+ghost use Rattle.cut_tests.specs.Words.{differing};
 
 use crate::growth::Growth;
 use crate::job::{Case, LIST, List};
@@ -51,10 +54,12 @@ pub trait Mover: Copy {
 // What a growth is put through.
 pub trait Player {
     // One whose move list is accepted.
-    fn carry(&self, case: &Case<'_, '_, '_>, tally: &mut Tally);
+    fn carry(&self, case: &Case<'_, '_, '_>, tally: &mut Tally)
+        ensures { Keeps tally.old tally.new };
 
     // One that is refused by a number.
-    fn refused(&self, growth: &Growth<'_>, number: u32, tally: &mut Tally);
+    fn refused(&self, growth: &Growth<'_>, number: u32, tally: &mut Tally)
+        ensures { Keeps tally.old tally.new };
 }
 
 // The calls of a mover for a growth.
@@ -79,7 +84,12 @@ impl<M: Mover> Calls<'_, M> {
 
     // A call that is not refused: it raises the mark, or says that it has reached the total. The mark to store. Of the bits it is lent
     // what they need, or a word or two more.
-    pub fn carried(&self, words: &mut List, mark: u32, tally: &mut Tally) -> u32 {
+    pub fn carried(&self, words: &mut List, mark: u32, tally: &mut Tally) -> u32
+        ensures keeps { Keeps tally.old tally.new }
+        ensures calls { tally.new.calls ≡ min (tally.old.calls + 1) (2 ^ 32 - 1) }
+        ensures comparisons { tally.new.comparisons ≡ min (tally.old.comparisons + 3) (2 ^ 64 - 1) }
+        ensures failed { min (tally.old.failed + from_bool (not (result == min (mark + from_bool (nat_lt mark self.now.growth.total)) (2 ^ 32 - 1)))) (2 ^ 64 - 1) ≤ tally.new.failed }
+    {
         add(&mut tally.calls, 1);
         let number = tally.calls;
         let call = Call {
@@ -100,7 +110,12 @@ impl<M: Mover> Calls<'_, M> {
     }
 
     // A call that is refused: the number and zeros, and no word changed.
-    pub fn refused(&self, words: &mut List, call: Call, number: u32, tally: &mut Tally) {
+    pub fn refused(&self, words: &mut List, call: Call, number: u32, tally: &mut Tally)
+        ensures keeps { Keeps tally.old tally.new }
+        ensures refused { tally.new.refused ≡ counted tally.old.refused number }
+        ensures comparisons { tally.new.comparisons ≡ min (tally.old.comparisons + 3 + call.words) (2 ^ 64 - 1) }
+        ensures failed { min (tally.old.failed + differing words.new words.old call.words) (2 ^ 64 - 1) ≤ tally.new.failed }
+    {
         let before = *words;
         let reply = self.lend(words, call);
         tally.refused_by(number);
@@ -109,7 +124,9 @@ impl<M: Mover> Calls<'_, M> {
     }
 
     // 40 and 41 at their edges; 40 comes first.
-    pub fn edges(&self, words: &mut List, tally: &mut Tally) {
+    pub fn edges(&self, words: &mut List, tally: &mut Tally)
+        ensures { Keeps tally.old tally.new }
+    {
         let g = self.growth;
         let bits = self.mover.bits();
         let short = g.words.saturating_sub(1);
@@ -124,7 +141,9 @@ impl<M: Mover> Calls<'_, M> {
     }
 
     // A table or sizes that are refused by a number, whatever the words, the bits and the mark.
-    pub fn wrong(&self, number: u32, tally: &mut Tally) {
+    pub fn wrong(&self, number: u32, tally: &mut Tally)
+        ensures { Keeps tally.old tally.new }
+    {
         let mut words = [0; LIST];
         fill(&mut words);
         let all = Call::lent(LIST as u32, M::ALL_BITS, 0);

@@ -1,5 +1,6 @@
 // Growths that are refused.
 ghost use Rattle.std.specs.Prelude.{◌≡◌};
+ghost use Rattle.cut_tests.specs.Counts.{Keeps};
 
 use crate::growth::{Growth, Table};
 use crate::mover::{Calls, Mover, Player};
@@ -28,6 +29,7 @@ fn changed<P: Player, F: FnOnce(&mut Table)>(
     tally: &mut Tally,
 )
     requires { F.IsAlwaysCallable change }
+    ensures { Keeps tally.old tally.new }
 {
     let mut table = *growth.table;
     change(&mut table);
@@ -35,7 +37,9 @@ fn changed<P: Player, F: FnOnce(&mut Table)>(
 }
 
 // 12 to 16, by changes of a table of two blocks of one bin and intervals of 4 buckets.
-pub fn tables<P: Player>(player: &P, growth: &Growth<'_>, tally: &mut Tally) {
+pub fn tables<P: Player>(player: &P, growth: &Growth<'_>, tally: &mut Tally)
+    ensures { Keeps tally.old tally.new }
+{
     changed(player, growth, 12, |t| t.tops[0] = 2, tally);
     changed(player, growth, 13, |t| t.ends[1] = 4, tally);
     changed(player, growth, 14, |t| t.blocks[1] = 2, tally);
@@ -44,7 +48,9 @@ pub fn tables<P: Player>(player: &P, growth: &Growth<'_>, tally: &mut Tally) {
 }
 
 // 40, where the new bins have 2^32 words.
-pub fn wide<M: Mover>(mover: M, tally: &mut Tally) {
+pub fn wide<M: Mover>(mover: M, tally: &mut Tally)
+    ensures { Keeps tally.old tally.new }
+{
     let mut table = Table::new();
     let reply = table.initial(10, 2, 536_870_912);
     let growth = Growth {

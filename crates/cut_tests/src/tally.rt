@@ -37,15 +37,23 @@ pub fn add(count: &mut u32, n: u32)
 }
 
 impl Tally {
+    ghost use Rattle.cut_tests.specs.Counts.{Keeps, others, counted, missed};
+
     // A call refused by a number.
-    pub fn refused_by(&mut self, number: u32) {
-        if let Some(count) = self.refused.get_mut(number as usize) {
-            add(count, 1);
+    #[tactic(auto, using(std::proofs::lemmas::List::set_past))]
+    pub fn refused_by(&mut self, number: u32)
+        ensures { self.new ≡ record self.old { refused = counted self.old.refused number } }
+    {
+        let place = number as usize;
+        if place < self.refused.len() {
+            add(&mut self.refused[place], 1);
         }
     }
 
     // So many comparisons, of which so many failed.
     pub fn compared(&mut self, n: usize, failed: usize)
+        ensures keeps { Keeps self.old self.new }
+        ensures others { others self.new ≡ others self.old }
         ensures comparisons { self.new.comparisons ≡ min (self.old.comparisons + n) (2 ^ 64 - 1) }
         ensures failed { self.new.failed ≡ min (self.old.failed + failed) (2 ^ 64 - 1) }
     {
@@ -55,14 +63,21 @@ impl Tally {
 
     // One comparison, which fails where the two differ.
     pub fn same(&mut self, seen: u32, right: u32)
+        ensures keeps { Keeps self.old self.new }
+        ensures others { others self.new ≡ others self.old }
         ensures comparisons { self.new.comparisons ≡ min (self.old.comparisons + 1) (2 ^ 64 - 1) }
         ensures failed { self.new.failed ≡ min (self.old.failed + from_bool (not (seen == right))) (2 ^ 64 - 1) }
     {
         self.compared(1, usize::from(seen != right));
     }
 
-    // A reply of the mover.
-    pub fn replied(&mut self, reply: CarryReply, right: CarryReply) {
+    // A reply of the mover, number by number.
+    pub fn replied(&mut self, reply: CarryReply, right: CarryReply)
+        ensures keeps { Keeps self.old self.new }
+        ensures others { others self.new ≡ others self.old }
+        ensures comparisons { self.new.comparisons ≡ min (self.old.comparisons + 3) (2 ^ 64 - 1) }
+        ensures failed { self.new.failed ≡ min (self.old.failed + missed reply right) (2 ^ 64 - 1) }
+    {
         self.same(reply.refusal, right.refusal);
         self.same(reply.mark, right.mark);
         self.same(reply.finished, right.finished);

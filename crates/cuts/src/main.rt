@@ -3,8 +3,7 @@
 #![tactic(auto)]
 
 use cut_tests::{
-    Call, Calls, Case, Growth, LIST, Mover, Plan, Player, Tally, play, play_full, print_cuts,
-    random, wide,
+    Call, Calls, Case, Growth, LIST, Mover, Plan, Player, Tally, play, play_full, random, wide,
 };
 use model::reply::CarryReply;
 use std::io;
@@ -60,7 +59,7 @@ fn printed(rt: &impl Print, t: &Tally) -> io::Result<()> {
         t.histories, t.growths, t.rows
     )?;
     println!(rt; "runs with cuts, accepted calls {} {}", t.runs, t.calls)?;
-    print_cuts(rt, t)
+    println!(rt; "{t}")
 }
 
 fn main(rt: HostRuntime) -> io::Result<()> {

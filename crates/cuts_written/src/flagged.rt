@@ -1,4 +1,6 @@
 // The mover, told which buckets are written, or not; and the call that counts them.
+ghost use Rattle.cut_tests.specs.Counts.{Keeps};
+
 use crate::bits::{needed, pack};
 use cut_tests::{Call, Growth, LIST, Mover, Tally, add};
 use model::reply::{CarryReply, WrittenReply};
@@ -55,7 +57,9 @@ impl<'a> Flagged<'a> {
     }
 
     // The call that counts says the number of copies, which is at most the total, whatever is behind the bits.
-    pub fn countings(&self, growth: &Growth<'_>, copies: u32, tally: &mut Tally) {
+    pub fn countings(&self, growth: &Growth<'_>, copies: u32, tally: &mut Tally)
+        ensures { Keeps tally.old tally.new }
+    {
         if let Some(bits) = self.bits {
             for more in 0..3 {
                 self.counting(growth, bits.saturating_add(more), copies, tally);
@@ -63,7 +67,9 @@ impl<'a> Flagged<'a> {
         }
     }
 
-    fn counting(&self, growth: &Growth<'_>, length: u32, copies: u32, tally: &mut Tally) {
+    fn counting(&self, growth: &Growth<'_>, length: u32, copies: u32, tally: &mut Tally)
+        ensures { Keeps tally.old tally.new }
+    {
         add(&mut tally.countings, 1);
         let reply = self.count(growth, length, tally.countings);
         tally.same(reply.refusal, 0);
@@ -72,7 +78,9 @@ impl<'a> Flagged<'a> {
     }
 
     // The call that counts, refused.
-    pub fn uncounted(&self, growth: &Growth<'_>, length: u32, number: u32, tally: &mut Tally) {
+    pub fn uncounted(&self, growth: &Growth<'_>, length: u32, number: u32, tally: &mut Tally)
+        ensures { Keeps tally.old tally.new }
+    {
         let reply = self.count(growth, length, number);
         tally.refused_by(number);
         tally.same(reply.refusal, number);

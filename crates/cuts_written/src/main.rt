@@ -12,7 +12,7 @@ ghost use Rattle.std.specs.Prelude.{◌<◌, ◌≤◌};
 
 use crate::flagged::Flagged;
 use crate::player::{Bare, Told};
-use cut_tests::{Plan, Tally, play, play_full, print_cuts, random, wide};
+use cut_tests::{Plan, Tally, play, play_full, random, wide};
 use std::io;
 use std::ops::Range;
 
@@ -31,7 +31,7 @@ fn printed(rt: &impl Print, t: &Tally) -> io::Result<()> {
         "runs with cuts, accepted calls, countings {} {} {}",
         t.runs, t.calls, t.countings
     )?;
-    print_cuts(rt, t)
+    println!(rt; "{t}")
 }
 
 fn plan(choices: u32, growths: u32) -> Plan

@@ -1,4 +1,6 @@
 // What a growth is put through, without bits and with them.
+ghost use Rattle.cut_tests.specs.Counts.{Keeps};
+
 use crate::flagged::Flagged;
 use crate::pattern::Pattern;
 use cut_tests::{
@@ -12,7 +14,9 @@ pub struct Bare;
 pub struct Told;
 
 // The mover carries a growth out, and the call that counts says how many copies it makes.
-fn carried(case: &Case<'_, '_, '_>, mover: Flagged<'_>, words: &mut List, tally: &mut Tally) {
+fn carried(case: &Case<'_, '_, '_>, mover: Flagged<'_>, words: &mut List, tally: &mut Tally)
+    ensures { Keeps tally.old tally.new }
+{
     let copies = case.carry(mover, words, tally);
     let rows = rows_of(case.list).iter().take(case.growth.total as usize);
     let written = rows.filter(|row| mover.is_written(row[0])).count();
@@ -21,7 +25,9 @@ fn carried(case: &Case<'_, '_, '_>, mover: Flagged<'_>, words: &mut List, tally:
 }
 
 // 42, one word of bits short and with none; 40 comes before it, and 41 after it.
-fn bit_edges(calls: &Calls<'_, Flagged<'_>>, words: &mut List, tally: &mut Tally) {
+fn bit_edges(calls: &Calls<'_, Flagged<'_>>, words: &mut List, tally: &mut Tally)
+    ensures { Keeps tally.old tally.new }
+{
     let g = calls.growth;
     let few = calls.mover.bits().saturating_sub(1);
     let short = g.words.saturating_sub(1);
@@ -37,7 +43,9 @@ fn bit_edges(calls: &Calls<'_, Flagged<'_>>, words: &mut List, tally: &mut Tally
     calls.mover.uncounted(&g, 0, 42, tally);
 }
 
-fn carry_pattern(case: &Case<'_, '_, '_>, pattern: Pattern, tally: &mut Tally) {
+fn carry_pattern(case: &Case<'_, '_, '_>, pattern: Pattern, tally: &mut Tally)
+    ensures { Keeps tally.old tally.new }
+{
     let buckets = case.growth.header.buckets;
     let mut flags = [false; LIST];
     let count = (buckets as usize).min(LIST);
@@ -53,7 +61,9 @@ fn carry_pattern(case: &Case<'_, '_, '_>, pattern: Pattern, tally: &mut Tally) {
 }
 
 // With all buckets written the words are those of calls without bits, and all that move are counted.
-fn whole(case: &Case<'_, '_, '_>, tally: &mut Tally) {
+fn whole(case: &Case<'_, '_, '_>, tally: &mut Tally)
+    ensures { Keeps tally.old tally.new }
+{
     let g = case.growth;
     let told = Flagged::all_told(g.header.buckets);
     let bare = Flagged::all_bare(g.header.buckets);

@@ -1,7 +1,7 @@
 -- What blocks gain, and the pieces of the blocks from j on. Assumes nothing.
 use Prim.Native.Nat.{ℕ, suc, ◌+◌, ◌-◌, ◌≤◌, ◌<◌}
 use mathlib.Core.Path.{◌≡◌, sym, ◌∙◌, ap}
-use mathlib.Core.Bool.{false}
+use mathlib.Core.Bool.{Bool, false}
 use mathlib.Core.Logic.{⊎_elim}
 use mathlib.Core.List.{List, ◌∷◌}
 use native.Mathlib.Omega.{arith}
@@ -9,7 +9,7 @@ use lib.ListN.{length, get_or}
 use borrow.Author.Tests.{eq-eqb, ne_eqb}
 use Rattle.model.specs.Basics.{if◌then◌otherwise◌}
 use Rattle.model.specs.Limits.{max_blocks}
-use Rattle.model.specs.Table.{Shape, interval, Table, Arrays, table}
+use Rattle.model.specs.Table.{Shape, interval, Table, Arrays, arrays, table, sizes}
 use Rattle.model.specs.Refusal.{first}
 use Rattle.model.specs.Sound.{Formed}
 use Rattle.model.specs.Calls.{growth_tests}
@@ -19,11 +19,11 @@ use Rattle.model.proofs.Listed.{equal_or}
 use Rattle.model.proofs.Wells.{Well, formed_well}
 use Rattle.model.proofs.Growths.{Accepted, accepted, block_limits, none_falls}
 use Rattle.model.proofs.Filled.{last_of, pieces_last, pieces_none, pieces_one}
-use Rattle.model.proofs.Steps.{pieces_length, has_most}
+use Rattle.model.proofs.Steps.{pieces_length, has_most, last_lent}
 use Rattle.table.specs.Formed.{arrays_of}
 use Rattle.expansion_plan.specs.Shares.{DuesBefore, DuesAfter}
 use Rattle.expansion_count.specs.declared.growth.Growth.{Growth}
-use Rattle.expansion_count.specs.Given.{Shares, NoneFalls}
+use Rattle.expansion_count.specs.Given.{Drains, LentGrows, Shares, NoneFalls}
 use Rattle.expansion_count.specs.Growths.{old_table, new_sizes}
 use Rattle.expansion_count.specs.Made.{piece_of}
 
@@ -118,17 +118,47 @@ module _ (h : Header) (a : Arrays) (s : Shape) (olds dues : List ℕ) (f : Fills
   pub fills_rise : NoneFalls olds dues
   fills_rise j l = omega (arith, gain_from j l)
 
+  -- what the pieces are made from
+  pub fills_shares : Shares (table h a) s (get_or a.blocks (h.interval_count - 1) 0) olds dues
+  fills_shares = record { own = sym (last_lent h a f.formed.some_intervals); before = f.before; after = f.after }
+
+-- a growth of a table in lent arrays
+module _
+    {h : Header}
+    {ends blocks adjustments : List ℕ}
+    {buckets : ℕ}
+    {olds dues : List ℕ}
+    {falls : Bool}
+    {count : ℕ}
+    {tops : List ℕ}
+    {bins : ℕ}
+    (g : LentGrows h ends blocks adjustments buckets olds dues falls count tops bins)
+  where
+    pub grows_drains : Drains h ends blocks adjustments buckets dues tops bins
+    grows_drains = record { formed = g.formed; asked = g.grows.asked; after = g.grows.after }
+
+    -- one by which no old block is due less
+    pub grows_fills : falls ≡ false → Fills h (arrays tops ends blocks adjustments) (sizes buckets bins) olds dues
+    grows_fills e =
+        record {
+          formed = g.formed;
+          asked = g.grows.asked;
+          before = g.grows.before;
+          after = g.grows.after;
+          none = sym g.grows.falling ∙ e;
+        }
+
+-- a growth, as one of lent arrays
+pub growth_lent
+    : (g : Growth)
+    → LentGrows g.table.header g.table.ends.now g.table.blocks.now g.table.adjustments.now g.buckets g.olds.now g.dues.now g.falls
+    g.block_count g.table.tops.now g.bins
+growth_lent g = record { formed = g.table.formed; grows = g.grows }
+
 -- a growth by which no old block is due less
 pub growth_fills
     : (g : Growth) → g.falls ≡ false → Fills g.table.header (arrays_of g.table) (new_sizes g) g.olds.now g.dues.now
-growth_fills g e =
-    record {
-      formed = g.table.formed;
-      asked = g.grows.asked;
-      before = g.grows.before;
-      after = g.grows.after;
-      none = sym g.grows.falling ∙ e;
-    }
+growth_fills g e = grows_fills (growth_lent g) e
 
 -- what the pieces of a growth are made from
 pub growth_shares

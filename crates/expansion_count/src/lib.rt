@@ -4,14 +4,19 @@
 
 mod growth;
 
-ghost use Rattle.std.specs.Prelude.{◌≡◌, ℕ, ◌≤◌, ◌<◌, length};
-ghost use Rattle.model.specs.Table.{Shape, Interval, Table};
-ghost use Rattle.expansion_count.specs.Given.{Shares, NoneFalls};
-ghost use Rattle.expansion_count.specs.Made.{made, piece_of};
+ghost use Rattle.std.specs.Prelude.{◌≡◌, List, ℕ, ◌≤◌, ◌<◌, length};
+ghost use Rattle.model.specs.Table.{Shape, Interval, Table, sizes};
+ghost use Rattle.model.specs.Refusal.{intervals_full};
+ghost use Rattle.model.specs.Expansion.{pieces as pieces_of, drained, expanded};
+ghost use Rattle.model.specs.Lent.{lent};
+ghost use Rattle.expansion_count.specs.Given.{Some, Drains, LentGrows, Shares, NoneFalls};
+ghost use Rattle.expansion_count.specs.Made.{made, left_behind, piece_of};
 
+use expansion_plan::plan_interval;
 pub use growth::Growth;
-use model::limits::BLOCKS;
+use model::limits::{BLOCKS, MAX_INTERVALS};
 use model::plan::{Action, Plan};
+use model::table::Header;
 
 // What a growth has written: the intervals of its table, and the buckets that it moves.
 #[derive(Clone, Copy)]
@@ -49,4 +54,116 @@ pub fn piece(last: u32, olds: &[u32; BLOCKS], dues: &[u32; BLOCKS], j: usize) ->
         return 0;
     }
     dues[j] - olds[j]
+}
+
+// The new buckets behind old interval i: all of them behind the last one.
+fn left_behind(h: Header, buckets: u32, i: usize) -> u32
+    requires { (i < h.interval_count) × (h.buckets ≤ buckets) }
+    ensures { result ≡ left_behind h buckets i }
+{
+    if i + 1 < h.interval_count as usize {
+        return 0;
+    }
+    buckets - h.buckets
+}
+
+// Some old block is due less: one pass over the old intervals.
+fn count_drained(
+    h: Header,
+    ends: &[u32],
+    blocks: &[u32],
+    adjustments: &[u32],
+    buckets: u32,
+    dues: &[u32; BLOCKS],
+) -> u32
+    requires { Some (Drains h ends.now blocks.now adjustments.now buckets dues.now) }
+    ensures { (tops : List ℕ) (bins : ℕ) → Drains h ends.now blocks.now adjustments.now buckets dues.now tops bins
+        → result ≡ length (drained (lent h tops ends.now blocks.now adjustments.now) (sizes buckets bins)) }
+{
+    let mut intervals: u32 = 0;
+    let mut start: u32 = 0;
+    let mut moved: u32 = 0;
+    for i in 0..h.interval_count as usize {
+        let due = dues[blocks[i] as usize];
+        let plan = plan_interval(due, start, ends[i], adjustments[i], moved);
+        intervals += part_count(plan, left_behind(h, buckets, i));
+        start = ends[i];
+        moved = plan.moved;
+    }
+    intervals
+}
+
+// No old block is due less: one pass over the blocks, of which there are `count` after the growth. Each that gains has a piece, but
+// `last`, the last interval's block.
+fn count_pieces(last: u32, olds: &[u32; BLOCKS], dues: &[u32; BLOCKS], count: u32) -> u32
+    requires { (count ≤ 65) × NoneFalls olds.now dues.now }
+    ensures few { result ≤ 65 }
+    ensures counted { (t : Table) (s : Shape) (c : ℕ) → Shares t s last olds.now dues.now → result ≡ length (pieces_of t s c 0 count) }
+{
+    let mut gaining: u32 = 0;
+    for j in 0..count as usize {
+        if piece(last, olds, dues, j) != 0 {
+            gaining += 1;
+        }
+    }
+    gaining
+}
+
+// The counting pass: how many intervals the growth's table needs. `olds` and `dues` are what each block has, and is due after the
+// growth; `falls` says that some old block is due less, and `count` is the number of blocks after it.
+fn measure(
+    h: Header,
+    ends: &[u32],
+    blocks: &[u32],
+    adjustments: &[u32],
+    buckets: u32,
+    olds: &[u32; BLOCKS],
+    dues: &[u32; BLOCKS],
+    falls: bool,
+    count: u32,
+) -> u32
+    requires { Some (LentGrows h ends.now blocks.now adjustments.now buckets olds.now dues.now falls count) }
+    ensures { (tops : List ℕ) (bins : ℕ)
+        → LentGrows h ends.now blocks.now adjustments.now buckets olds.now dues.now falls count tops bins
+        → result ≡ length (expanded (lent h tops ends.now blocks.now adjustments.now) (sizes buckets bins)).intervals }
+{
+    if falls {
+        return count_drained(h, ends, blocks, adjustments, buckets, dues);
+    }
+    let last = blocks[h.interval_count as usize - 1];
+    h.interval_count + count_pieces(last, olds, dues, count)
+}
+
+// Whether the growth's table needs more intervals than a table may have. They are counted only where they can be too many.
+pub fn intervals_full(
+    h: Header,
+    ends: &[u32],
+    blocks: &[u32],
+    adjustments: &[u32],
+    buckets: u32,
+    olds: &[u32; BLOCKS],
+    dues: &[u32; BLOCKS],
+    falls: bool,
+    count: u32,
+) -> bool
+    requires { Some (LentGrows h ends.now blocks.now adjustments.now buckets olds.now dues.now falls count) }
+    ensures { (tops : List ℕ) (bins : ℕ)
+        → LentGrows h ends.now blocks.now adjustments.now buckets olds.now dues.now falls count tops bins
+        → result ≡ intervals_full (lent h tops ends.now blocks.now adjustments.now) (sizes buckets bins) }
+{
+    if h.interval_count + count <= MAX_INTERVALS {
+        return false;
+    }
+    let intervals = measure(
+        h,
+        ends,
+        blocks,
+        adjustments,
+        buckets,
+        olds,
+        dues,
+        falls,
+        count,
+    );
+    MAX_INTERVALS < intervals
 }

@@ -2,17 +2,21 @@
 // final end when it is written.
 #![tactic(auto)]
 
-ghost use Rattle.std.specs.Prelude.{[], ◌∷◌, ◌+◌, ◌^◌, ◌<◌, ◌≤◌, ◌≡◌, length};
-ghost use Rattle.model.specs.Expansion.{drained};
+ghost use Rattle.std.specs.Prelude.{List, [], ◌∷◌, ℕ, ◌+◌, ◌^◌, ◌<◌, ◌≤◌, ◌≡◌, length, get_or};
+ghost use Rattle.model.specs.Table.{interval, sizes};
+ghost use Rattle.model.specs.Expansion.{plan, drained};
+ghost use Rattle.model.specs.Lent.{lent};
 ghost use Rattle.table.specs.Formed.{arrays_of};
 ghost use Rattle.expansion_plan.specs.Shares.{interval_at};
-ghost use Rattle.expansion_count.specs.Growths.{old_table, new_sizes};
+ghost use Rattle.expansion_count.specs.Given.{Some, Drains};
 ghost use Rattle.expansion_count.specs.Made.{made, CountedDrained};
-ghost use Rattle.expansion_drain.specs.Stored.{Room, Stored, staying, interval_of};
+ghost use Rattle.expansion_drain.specs.Stored.{Room, Stored, staying, interval_of, DrainsInto};
 
-use expansion_count::{Growth, Written};
-use expansion_plan::plan_at;
+use expansion_count::Written;
+use expansion_plan::plan_interval;
+use model::limits::BLOCKS;
 use model::plan::{Action, Plan};
+use model::table::Header;
 use table::{FormedTable, before};
 
 // document 01's run: its end, the first bucket past it; its block; its rank adjustment.
@@ -23,16 +27,24 @@ pub struct Interval {
     pub adjustment: u32,
 }
 
+// Interval i of lent arrays.
+fn lent_interval(ends: &[u32], blocks: &[u32], adjustments: &[u32], i: usize) -> Interval
+    requires { (i < length ends.now) × (i < length blocks.now) × (i < length adjustments.now) }
+    ensures { interval_of result ≡ interval (get_or ends.now i 0) (get_or blocks.now i 0) (get_or adjustments.now i 0) }
+{
+    Interval {
+        end: ends[i],
+        block: blocks[i],
+        adjustment: adjustments[i],
+    }
+}
+
 // Interval i of a table.
 pub fn interval_at(table: FormedTable, i: usize) -> Interval
     requires { i < table.header.interval_count }
     ensures { interval_of result ≡ interval_at (arrays_of table.entry) i }
 {
-    Interval {
-        end: table.ends[i],
-        block: table.blocks[i],
-        adjustment: table.adjustments[i],
-    }
+    lent_interval(table.ends, table.blocks, table.adjustments, i)
 }
 
 // Writes one interval at place o.
@@ -163,30 +175,53 @@ fn write_parts(
     }
 }
 
+// The plan for an old interval, which starts at `start`, where `moved` buckets have moved before it. `dues` is what each block is
+// due.
+fn plan_of(interval: Interval, dues: &[u32; BLOCKS], start: u32, moved: u32) -> Plan
+    requires { (interval.block < 65) × (interval.adjustment ≤ start) × (start < interval.end) × (moved ≤ start) }
+    ensures { result ≡ plan (get_or dues.now interval.block 0) start (interval_of interval) moved }
+{
+    plan_interval(
+        dues[interval.block as usize],
+        start,
+        interval.end,
+        interval.adjustment,
+        moved,
+    )
+}
+
 // Some old block is due less: one pass over the old intervals, with the new buckets behind the last one. The place that it comes to
 // is the number of intervals.
 pub fn write_drained(
-    growth: &Growth,
+    h: Header,
+    ends: &[u32],
+    blocks: &[u32],
+    adjustments: &[u32],
+    buckets: u32,
+    dues: &[u32; BLOCKS],
     new_ends: &mut [u32],
     new_blocks: &mut [u32],
     new_adjustments: &mut [u32],
 ) -> Written
-    requires { Room (length (drained (old_table growth.now) (new_sizes growth.now))) new_ends.old new_blocks.old new_adjustments.old }
-    ensures counted { CountedDrained (old_table growth.now) (new_sizes growth.now) result }
-    ensures stored { Stored 0 (drained (old_table growth.now) (new_sizes growth.now)) new_ends.old new_blocks.old new_adjustments.old
+    requires { Some
+        (DrainsInto new_ends.old new_blocks.old new_adjustments.old h ends.now blocks.now adjustments.now buckets dues.now) }
+    ensures { (tops : List ℕ) (bins : ℕ)
+        → Drains h ends.now blocks.now adjustments.now buckets dues.now tops bins
+        → CountedDrained (lent h tops ends.now blocks.now adjustments.now) (sizes buckets bins) result
+        × Stored 0 (drained (lent h tops ends.now blocks.now adjustments.now) (sizes buckets bins))
+        new_ends.old new_blocks.old new_adjustments.old
         new_ends.new new_blocks.new new_adjustments.new }
 {
-    let table = growth.table;
-    let last = table.header.interval_count as usize - 1;
+    let last = h.interval_count as usize - 1;
     let mut moved: u32 = 0;
     let mut o: usize = 0;
     for i in 0..last {
-        let start = before(table.ends, i);
-        let plan = plan_at(table, growth.dues, i, start, moved);
+        let interval = lent_interval(ends, blocks, adjustments, i);
+        let plan = plan_of(interval, dues, before(ends, i), moved);
         o = write_parts(
             plan,
-            interval_at(table, i),
-            table.header.block_count,
+            interval,
+            h.block_count,
             0,
             o,
             new_ends,
@@ -195,13 +230,13 @@ pub fn write_drained(
         );
         moved = plan.moved;
     }
-    let start = before(table.ends, last);
-    let plan = plan_at(table, growth.dues, last, start, moved);
+    let interval = lent_interval(ends, blocks, adjustments, last);
+    let plan = plan_of(interval, dues, before(ends, last), moved);
     let place = write_parts(
         plan,
-        interval_at(table, last),
-        table.header.block_count,
-        growth.buckets - table.header.buckets,
+        interval,
+        h.block_count,
+        buckets - h.buckets,
         o,
         new_ends,
         new_blocks,

@@ -136,7 +136,18 @@ fn write_intervals(
         new_ends.new new_blocks.new new_adjustments.new }
 {
     if growth.falls {
-        return write_drained(growth, new_ends, new_blocks, new_adjustments);
+        let table = growth.table;
+        return write_drained(
+            table.header,
+            table.ends,
+            table.blocks,
+            table.adjustments,
+            growth.buckets,
+            growth.dues,
+            new_ends,
+            new_blocks,
+            new_adjustments,
+        );
     }
     let intervals = write_filled(growth, new_ends, new_blocks, new_adjustments);
     Written {

@@ -2,11 +2,13 @@
 ghost use Rattle.std.specs.Prelude.{◌≤◌};
 
 use crate::print::{line, numbers};
-use model::limits::{BLOCKS, INTERVALS, MAX_BUCKETS, MAX_CAPACITY};
+use model::limits::MAX_CAPACITY;
 use model::reply::TableReply;
 use std::io;
 
-const OVER: u32 = MAX_BUCKETS + 1;
+const MOST: u32 = 1_000_000_000;
+
+const OVER: u32 = 1_000_000_001;
 
 // Sizes asked for, with the capacity of document 01's figures: these, then refusals 1 and 2 at their edges.
 const SIZES: [[u32; 2]; 10] = [
@@ -31,10 +33,10 @@ pub fn sizes(rt: &impl Print) -> io::Result<()> {
 
 // sizes, capacity; the reply; the first two entries of each array: written, and kept
 fn fresh(rt: &impl Print, buckets: u32, bins: u32, capacity: u32) -> io::Result<()> {
-    let mut tops = [7u32; BLOCKS];
-    let mut ends = [7u32; INTERVALS];
-    let mut blocks = [7u32; INTERVALS];
-    let mut adjustments = [7u32; INTERVALS];
+    let mut tops = [7u32; 65];
+    let mut ends = [7u32; 2081];
+    let mut blocks = [7u32; 2081];
+    let mut adjustments = [7u32; 2081];
     let reply = irr::initial(
         buckets,
         bins,
@@ -79,7 +81,7 @@ pub fn maps(rt: &impl Print) -> io::Result<()> {
     fresh(rt, 10, 2, 0)?;
     fresh(rt, 10, 2, OVER)?;
     fresh(rt, 10, 2, u32::MAX)?;
-    fresh(rt, 10, 2, MAX_BUCKETS)?;
+    fresh(rt, 10, 2, MOST)?;
     labels(rt)?;
     most_maps(rt)?;
     order(rt)
@@ -95,14 +97,14 @@ fn labels(rt: &impl Print) -> io::Result<()> {
 
 // The most buckets, in one bin and in more. In 43 bins, P n is above a multiple of 2^32 by less than B.
 fn most_maps(rt: &impl Print) -> io::Result<()> {
-    fresh(rt, MAX_BUCKETS, 1, MAX_CAPACITY)?;
-    fresh(rt, 999_999_993, 1, MAX_CAPACITY)?;
-    fresh(rt, 999_999_992, 1, MAX_CAPACITY)?;
+    fresh(rt, MOST, 1, MOST)?;
+    fresh(rt, 999_999_993, 1, MOST)?;
+    fresh(rt, 999_999_992, 1, MOST)?;
     fresh(rt, 999_999_992, 1, 999_999_999)?;
-    fresh(rt, MAX_BUCKETS, 43, MAX_CAPACITY)?;
-    fresh(rt, MAX_BUCKETS, 1, 999_999_999)?;
-    fresh(rt, MAX_BUCKETS, 65_535, 15_268)?;
-    fresh(rt, MAX_BUCKETS, 65_535, 15_267)
+    fresh(rt, MOST, 43, MOST)?;
+    fresh(rt, MOST, 1, 999_999_999)?;
+    fresh(rt, MOST, 65_535, 15_268)?;
+    fresh(rt, MOST, 65_535, 15_267)
 }
 
 fn order(rt: &impl Print) -> io::Result<()> {
@@ -137,10 +139,10 @@ fn asked(
     requires blocks_bound { blocks ≤ 2081 }
     requires adjustments_bound { adjustments ≤ 2081 }
 {
-    let mut all_tops = [7u32; BLOCKS];
-    let mut all_ends = [7u32; INTERVALS];
-    let mut all_blocks = [7u32; INTERVALS];
-    let mut all_adjustments = [7u32; INTERVALS];
+    let mut all_tops = [7u32; 65];
+    let mut all_ends = [7u32; 2081];
+    let mut all_blocks = [7u32; 2081];
+    let mut all_adjustments = [7u32; 2081];
     let reply = irr::initial(
         0,
         0,

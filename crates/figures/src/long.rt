@@ -4,11 +4,10 @@ ghost use Rattle.std.specs.Prelude.{◌≤◌};
 use crate::calls::{Lent, header};
 use crate::print::line;
 use crate::read::place;
-use model::limits::{BLOCKS, INTERVALS};
 use std::io;
 
 // One entry more than the most intervals.
-const LONG: usize = INTERVALS + 1;
+const LONG: usize = 2_082;
 
 // first, first + 1, .. in every entry, first being 0 or 1
 fn rising(first: u32) -> [u32; LONG]
@@ -61,10 +60,10 @@ fn grown(rt: &impl Print, capacity: u32, buckets: u32, bins: u32) -> io::Result<
         adjustments: &blocks,
     };
     let lent = lent.with_capacity(capacity);
-    let mut new_tops = [7u32; BLOCKS];
-    let mut ends = [7u32; INTERVALS];
-    let mut new_blocks = [7u32; INTERVALS];
-    let mut adjustments = [7u32; INTERVALS];
+    let mut new_tops = [7u32; 65];
+    let mut ends = [7u32; 2081];
+    let mut new_blocks = [7u32; 2081];
+    let mut adjustments = [7u32; 2081];
     let reply = irr::expand(
         lent.header,
         lent.tops,

@@ -1,7 +1,7 @@
 // The growths that are asked for.
+use crate::limits::{MAX_BINS, MAX_BUCKETS};
 use crate::random::Random;
 use crate::size::Sizes;
-use model::limits::{MAX_BINS, MAX_BUCKETS};
 
 // No random map has more buckets.
 const MOST: u32 = 4_096;

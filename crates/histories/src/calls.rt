@@ -1,6 +1,6 @@
 // The table of a map, and the calls that are asked of it.
+use crate::limits::{BLOCKS, INTERVALS};
 use crate::size::Sizes;
-use model::limits::{BLOCKS, INTERVALS};
 use model::reply::{
     BinSizeReply, FindReply, LoadReply, PlaceReply, PlacesReply, RelocationsReply, SaveReply,
     SheetReply, TableReply,

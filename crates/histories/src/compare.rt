@@ -2,9 +2,9 @@
 use crate::calls::Lent;
 use crate::counts::Counts;
 use crate::history::Map;
+use crate::limits::LABEL;
 use crate::refusal::Refusal;
 use crate::size::Sizes;
-use model::limits::LABEL;
 use model::reply::{FindReply, PlaceReply, RelocationsReply};
 
 // What a lent array has where no call writes.

@@ -3,8 +3,8 @@
 ghost use Rattle.std.specs.Prelude.{◌-◌};
 ghost use Rattle.std.specs.Iterator.{at_most};
 
+use crate::limits::{BLOCKS, LABEL};
 use crate::size::Sizes;
-use model::limits::{BLOCKS, LABEL};
 use model::reply::PlaceReply;
 
 // Room for so many buckets, and for so many bins.

@@ -4,8 +4,8 @@ use crate::calls::Table;
 use crate::compare::{UNWRITTEN, placed};
 use crate::counts::Counts;
 use crate::history::Map;
+use crate::limits::MAX_CAPACITY;
 use crate::refusal::Refusal;
-use model::limits::MAX_CAPACITY;
 use model::reply::PlaceReply;
 use model::table::Header;
 

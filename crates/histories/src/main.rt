@@ -9,6 +9,7 @@ mod counts;
 mod directory;
 mod file;
 mod history;
+mod limits;
 mod list;
 mod rack_sheet;
 mod random;
@@ -18,9 +19,9 @@ mod size;
 use crate::ask::Growths;
 use crate::counts::Counts;
 use crate::history::Map;
+use crate::limits::{LABEL, MAX_BINS, MAX_CAPACITY};
 use crate::random::Random;
 use crate::size::Sizes;
-use model::limits::{LABEL, MAX_BINS, MAX_CAPACITY};
 use std::io;
 
 #[derive(Drop)]

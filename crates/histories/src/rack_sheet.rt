@@ -1,7 +1,7 @@
 // The rack sheet of a map: its lines are read back, and compared with the table and with the directory.
 use crate::counts::Counts;
 use crate::history::Map;
-use model::limits::INTERVALS;
+use crate::limits::INTERVALS;
 use std::ops::Range;
 
 // The bytes of a line: five fields of ten columns, and a line feed.

@@ -1,7 +1,7 @@
 // The refusals that are expected of the calls.
 use crate::directory::Directory;
+use crate::limits::{LABEL, MAX_BINS, MAX_BLOCKS, MAX_BUCKETS};
 use crate::size::Sizes;
-use model::limits::{LABEL, MAX_BINS, MAX_BLOCKS, MAX_BUCKETS};
 
 // By document 01's numbers.
 #[derive(Clone, Copy)]

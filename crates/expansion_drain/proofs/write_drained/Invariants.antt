@@ -1,8 +1,10 @@
+use Rattle.std.proofs.Common.{ℕ, List}
 use Rattle.model.specs.Basics.{before}
+use Rattle.model.specs.Table.{arrays, sizes}
+use Rattle.model.specs.Lent.{lent}
 use Rattle.model.specs.Expansion.{drained}
 use Rattle.model.proofs.Steps.{Walk}
-use Rattle.table.specs.Formed.{arrays_of}
-use Rattle.expansion_count.specs.Growths.{old_table, new_sizes}
+use Rattle.expansion_count.specs.Given.{Drains}
 use Rattle.expansion_count.proofs.Parts.{to_make}
 use Rattle.expansion_drain.proofs.Stores.{Writing}
 use Rattle.expansion_drain.proofs.write_drained.Given as goal
@@ -10,10 +12,11 @@ use Rattle.expansion_drain.proofs.write_drained.Given as goal
 -- what is written and what the walk still makes are the whole
 abbrev pub invariant-loop-i : goal.invariant-loop-i
 invariant-loop-i l =
-    let g = l.fn.growth in
-    let h = g.table.header in
-    let a = arrays_of g.table in
-    let start = before g.table.ends.now l.i in
-    Walk h a (new_sizes g) l.i start l.moved
-    × Writing 0 l.o (drained (old_table g) (new_sizes g)) (to_make h a (new_sizes g) l.i start l.moved)
-    l.fn.new_ends l.fn.new_blocks l.fn.new_adjustments l.new_ends l.new_blocks l.new_adjustments
+    let f = l.fn in
+    let start = before f.ends l.i in
+    (tops : List ℕ) (bins : ℕ) → Drains f.h f.ends f.blocks f.adjustments f.buckets f.dues tops bins
+    → Walk f.h (arrays tops f.ends f.blocks f.adjustments) (sizes f.buckets bins) l.i start l.moved
+    × Writing 0 l.o
+    (drained (lent f.h tops f.ends f.blocks f.adjustments) (sizes f.buckets bins))
+    (to_make f.h (arrays tops f.ends f.blocks f.adjustments) (sizes f.buckets bins) l.i start l.moved)
+    f.new_ends f.new_blocks f.new_adjustments l.new_ends l.new_blocks l.new_adjustments

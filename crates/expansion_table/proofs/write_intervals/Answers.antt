@@ -7,13 +7,20 @@ use Rattle.model.proofs.Steps.{drained_count, drained_moves, filled_moves}
 use Rattle.model.proofs.Kept.{moved_is_least}
 use Rattle.expansion_count.specs.Growths.{new_sizes}
 use Rattle.expansion_count.proofs.Bounds.{filled_most}
-use Rattle.expansion_count.proofs.Pieces.{growth_fills, blocks_few}
+use Rattle.expansion_count.proofs.Pieces.{grows_drains, growth_lent, growth_fills, blocks_few}
 use Rattle.expansion_table.proofs.write_intervals.Goals as goal
 
 pub write_drained-requires : goal.write_drained-requires
 write_drained-requires c =
     let g = c.args.growth.now in
-    rw (drained_count _ _ _ g.table.formed g.grows.asked (sym g.grows.falling ∙ c.if-growth.true)) at c.requires
+    record {
+      one = g.table.tops.now;
+      other = g.bins;
+      holds = record {
+        drains = grows_drains (growth_lent g);
+        room = rw (drained_count _ _ _ g.table.formed g.grows.asked (sym g.grows.falling ∙ c.if-growth.true)) at c.requires;
+      };
+    }
 
 pub returns-then-growth-clause-counted : goal.returns-then-growth-clause-counted
 returns-then-growth-clause-counted c =
@@ -21,7 +28,7 @@ returns-then-growth-clause-counted c =
     let formed = g.table.formed in
     let asked = g.grows.asked in
     let falls = sym g.grows.falling ∙ c.if-growth.true in
-    let counted = c.write_drained.ensures.counted in
+    let counted = (c.write_drained.ensures _ _ (grows_drains (growth_lent g))).0 in
     let moves = counted.moved ∙ drained_moves _ _ _ formed asked falls in
     record {
       intervals = counted.intervals ∙ sym (drained_count _ _ _ formed asked falls);
@@ -32,7 +39,8 @@ returns-then-growth-clause-counted c =
 pub returns-then-growth-clause-stored : goal.returns-then-growth-clause-stored
 returns-then-growth-clause-stored c =
     let g = c.args.growth.now in
-    rw (expanded_drained _ (new_sizes g) (sym g.grows.falling ∙ c.if-growth.true)) c.write_drained.ensures.stored
+    rw (expanded_drained _ (new_sizes g) (sym g.grows.falling ∙ c.if-growth.true))
+    (c.write_drained.ensures _ _ (grows_drains (growth_lent g))).1
 
 pub write_filled-intervals-requires-clause-room : goal.write_filled-intervals-requires-clause-room
 write_filled-intervals-requires-clause-room c =
