@@ -1,10 +1,12 @@
 // A table whose growth is refused by 8, 2,080 intervals of 4 buckets in turn in two blocks of one bin: the mover carries it out. And
 // refused tables.
+ghost use Rattle.std.specs.Prelude.{◌≡◌, true};
 ghost use Rattle.cut_tests.specs.Counts.{Keeps};
 
 use crate::growth::{Growth, Table};
 use crate::job::{Case, LIST};
-use crate::mover::Player;
+use crate::mover::KeepingPlayer;
+use crate::player::{Keeping, Plays};
 use crate::refusal::tables;
 use crate::tally::Tally;
 use model::table::Header;
@@ -40,8 +42,8 @@ fn asked(table: &Table, buckets: u32, capacity: u32) -> Growth<'_> {
 }
 
 // 11 and 30 come before 1, as they do before 40, 42 and 41.
-fn headed<P: Player>(player: &P, growth: Growth<'_>, number: u32, tally: &mut Tally)
-    ensures { Keeps tally.old tally.new }
+fn headed<P: Plays>(player: &P, growth: Growth<'_>, number: u32, tally: &mut Tally)
+    ensures { P.keeps ≡ true → Keeps tally.old tally.new }
 {
     player.refused(&growth, number, tally);
     let mut none = growth;
@@ -50,8 +52,8 @@ fn headed<P: Player>(player: &P, growth: Growth<'_>, number: u32, tally: &mut Ta
 }
 
 // The growth is refused, but its move list is not.
-fn listed<P: Player>(player: &P, growth: Growth<'_>, tally: &mut Tally)
-    ensures { Keeps tally.old tally.new }
+fn listed<P: Plays>(player: &P, growth: Growth<'_>, tally: &mut Tally)
+    ensures { P.keeps ≡ true → Keeps tally.old tally.new }
 {
     let mut new = Table::new();
     tally.same(growth.expand(&mut new).refusal, 8);
@@ -69,8 +71,8 @@ fn listed<P: Player>(player: &P, growth: Growth<'_>, tally: &mut Tally)
     player.carry(&case, tally);
 }
 
-pub fn play<P: Player>(player: &P, tally: &mut Tally)
-    ensures { Keeps tally.old tally.new }
+pub fn play<P: Plays>(player: &P, tally: &mut Tally)
+    ensures { P.keeps ≡ true → Keeps tally.old tally.new }
 {
     let table = table();
     let growth = asked(&table, 8_320, 4_168);
@@ -78,4 +80,12 @@ pub fn play<P: Player>(player: &P, tally: &mut Tally)
     tables(player, &growth, tally);
     headed(player, asked(&table, 0, 4_168), 11, tally);
     headed(player, asked(&table, 8_320, 4_167), 30, tally);
+}
+
+// The same, by a `KeepingPlayer`. Always inlined, so that a program's code and stack are those of `play` called by itself.
+#[inline(always)]
+pub fn play_keeping<P: KeepingPlayer>(player: &P, tally: &mut Tally)
+    ensures { Keeps tally.old tally.new }
+{
+    play(&Keeping(player), tally);
 }

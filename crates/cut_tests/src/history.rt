@@ -1,11 +1,12 @@
 // A history: a fresh map and growths of it, each carried out by the mover, without a cut and with every cut.
-ghost use Rattle.std.specs.Prelude.{◌<◌, ◌≤◌};
+ghost use Rattle.std.specs.Prelude.{◌≡◌, ◌<◌, ◌≤◌, true};
 ghost use Rattle.cut_tests.specs.Counts.{Keeps};
 
 use crate::chance::{below, draw};
 use crate::growth::{Growth, Table};
 use crate::job::{Case, LIST, List};
-use crate::mover::Player;
+use crate::mover::KeepingPlayer;
+use crate::player::{Keeping, Plays};
 use crate::tally::{Tally, add};
 use model::table::Header;
 
@@ -71,8 +72,8 @@ impl Map {
     }
 
     // One growth, which may be refused.
-    fn grow<P: Player>(&mut self, player: &P, plan: Plan, tally: &mut Tally)
-        ensures { Keeps tally.old tally.new }
+    fn grow<P: Plays>(&mut self, player: &P, plan: Plan, tally: &mut Tally)
+        ensures { P.keeps ≡ true → Keeps tally.old tally.new }
     {
         let growth = self.asked(plan);
         let mut list = [u32::MAX; LIST];
@@ -94,7 +95,7 @@ impl Map {
 }
 
 // The growth of a move list, to a new map, is put through what the player has for it.
-fn carry<P: Player>(
+fn carry<P: Plays>(
     player: &P,
     growth: Growth<'_>,
     list: &List,
@@ -102,7 +103,7 @@ fn carry<P: Player>(
     seed: u32,
     tally: &mut Tally,
 )
-    ensures { Keeps tally.old tally.new }
+    ensures { P.keeps ≡ true → Keeps tally.old tally.new }
 {
     let case = Case {
         growth,
@@ -140,7 +141,7 @@ fn accepted(growth: &Growth<'_>, new: &mut Table, tally: &mut Tally) -> Header
 }
 
 // A history from so many buckets in so many bins. The random number after it.
-pub fn play<P: Player>(
+pub fn play<P: Plays>(
     player: &P,
     seed: u32,
     buckets: u32,
@@ -148,7 +149,7 @@ pub fn play<P: Player>(
     plan: Plan,
     tally: &mut Tally,
 ) -> u32
-    ensures { Keeps tally.old tally.new }
+    ensures { P.keeps ≡ true → Keeps tally.old tally.new }
 {
     add(&mut tally.histories, 1);
     let mut table = Table::new();
@@ -167,8 +168,8 @@ pub fn play<P: Player>(
 }
 
 // So many random histories.
-pub fn random<P: Player>(player: &P, seed: u32, histories: u32, plan: Plan, tally: &mut Tally)
-    ensures { Keeps tally.old tally.new }
+pub fn random<P: Plays>(player: &P, seed: u32, histories: u32, plan: Plan, tally: &mut Tally)
+    ensures { P.keeps ≡ true → Keeps tally.old tally.new }
 {
     let mut seed = seed;
     for _ in 0..histories {
@@ -176,4 +177,33 @@ pub fn random<P: Player>(player: &P, seed: u32, histories: u32, plan: Plan, tall
         let bins = below(draw(seed), buckets.min(6)) + 1;
         seed = play(player, draw(draw(seed)), buckets, bins, plan, tally);
     }
+}
+
+// A history that is played by a `KeepingPlayer`. Always inlined, as in `full`.
+#[inline(always)]
+pub fn play_keeping<P: KeepingPlayer>(
+    player: &P,
+    seed: u32,
+    buckets: u32,
+    bins: u32,
+    plan: Plan,
+    tally: &mut Tally,
+) -> u32
+    ensures { Keeps tally.old tally.new }
+{
+    play(&Keeping(player), seed, buckets, bins, plan, tally)
+}
+
+// So many random histories, played by a `KeepingPlayer`. Always inlined, as in `full`.
+#[inline(always)]
+pub fn random_keeping<P: KeepingPlayer>(
+    player: &P,
+    seed: u32,
+    histories: u32,
+    plan: Plan,
+    tally: &mut Tally,
+)
+    ensures { Keeps tally.old tally.new }
+{
+    random(&Keeping(player), seed, histories, plan, tally);
 }

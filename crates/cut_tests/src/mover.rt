@@ -51,8 +51,17 @@ pub trait Mover: Copy {
     fn carry(&self, growth: &Growth<'_>, words: &mut [u32], call: Call) -> CarryReply;
 }
 
-// What a growth is put through.
+// What a growth is put through, which may do anything with the counts.
 pub trait Player {
+    // One whose move list is accepted.
+    fn carry(&self, case: &Case<'_, '_, '_>, tally: &mut Tally);
+
+    // One that is refused by a number.
+    fn refused(&self, growth: &Growth<'_>, number: u32, tally: &mut Tally);
+}
+
+// What a growth is put through, where no comparison is forgotten, and none that failed.
+pub trait KeepingPlayer {
     // One whose move list is accepted.
     fn carry(&self, case: &Case<'_, '_, '_>, tally: &mut Tally)
         ensures { Keeps tally.old tally.new };

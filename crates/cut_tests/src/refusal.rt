@@ -1,9 +1,10 @@
 // Growths that are refused.
-ghost use Rattle.std.specs.Prelude.{◌≡◌};
+ghost use Rattle.std.specs.Prelude.{◌≡◌, true};
 ghost use Rattle.cut_tests.specs.Counts.{Keeps};
 
 use crate::growth::{Growth, Table};
-use crate::mover::{Calls, Mover, Player};
+use crate::mover::{Calls, Mover};
+use crate::player::Plays;
 use crate::tally::Tally;
 use model::reply::CarryReply;
 
@@ -21,7 +22,7 @@ pub fn refusal_of(number: u32) -> CarryReply
 }
 
 // The growth of a changed table, which is refused by a number.
-fn changed<P: Player, F: FnOnce(&mut Table)>(
+fn changed<P: Plays, F: FnOnce(&mut Table)>(
     player: &P,
     growth: &Growth<'_>,
     number: u32,
@@ -29,7 +30,7 @@ fn changed<P: Player, F: FnOnce(&mut Table)>(
     tally: &mut Tally,
 )
     requires { F.IsAlwaysCallable change }
-    ensures { Keeps tally.old tally.new }
+    ensures { P.keeps ≡ true → Keeps tally.old tally.new }
 {
     let mut table = *growth.table;
     change(&mut table);
@@ -37,8 +38,8 @@ fn changed<P: Player, F: FnOnce(&mut Table)>(
 }
 
 // 12 to 16, by changes of a table of two blocks of one bin and intervals of 4 buckets.
-pub fn tables<P: Player>(player: &P, growth: &Growth<'_>, tally: &mut Tally)
-    ensures { Keeps tally.old tally.new }
+pub fn tables<P: Plays>(player: &P, growth: &Growth<'_>, tally: &mut Tally)
+    ensures { P.keeps ≡ true → Keeps tally.old tally.new }
 {
     changed(player, growth, 12, |t| t.tops[0] = 2, tally);
     changed(player, growth, 13, |t| t.ends[1] = 4, tally);

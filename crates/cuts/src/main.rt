@@ -2,8 +2,12 @@
 // refused calls. Prints what it counted. The random histories come from a fixed seed, so that a run is like any other.
 #![tactic(auto)]
 
+#[cfg(test)]
+mod tests;
+
 use cut_tests::{
-    Call, Calls, Case, Growth, LIST, Mover, Plan, Player, Tally, play, play_full, random, wide,
+    Call, Calls, Case, Growth, KeepingPlayer, LIST, Mover, Plan, Tally, play_full_keeping,
+    play_keeping, random_keeping, wide,
 };
 use model::reply::CarryReply;
 use std::io;
@@ -38,7 +42,7 @@ impl Mover for Plain {
     }
 }
 
-impl Player for Plain {
+impl KeepingPlayer for Plain {
     fn carry(&self, case: &Case<'_, '_, '_>, tally: &mut Tally) {
         let mut words = [0; LIST];
         case.carry(Plain, &mut words, tally);
@@ -64,17 +68,17 @@ fn printed(rt: &impl Print, t: &Tally) -> io::Result<()> {
 
 fn main(rt: HostRuntime) -> io::Result<()> {
     let mut tally = Tally::default();
-    play_full(&Plain, &mut tally);
+    play_full_keeping(&Plain, &mut tally);
     wide(Plain, &mut tally);
     let by_bins = Plan {
         choices: 1,
         growths: 65,
     };
-    play(&Plain, 1, 66, 1, by_bins, &mut tally);
+    play_keeping(&Plain, 1, 66, 1, by_bins, &mut tally);
     let of_all = Plan {
         choices: 8,
         growths: 12,
     };
-    random(&Plain, 20_261_115, 400, of_all, &mut tally);
+    random_keeping(&Plain, 20_261_115, 400, of_all, &mut tally);
     printed(&rt, &tally)
 }

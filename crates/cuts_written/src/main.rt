@@ -12,7 +12,7 @@ ghost use Rattle.std.specs.Prelude.{◌<◌, ◌≤◌};
 
 use crate::flagged::Flagged;
 use crate::player::{Bare, Told};
-use cut_tests::{Plan, Tally, play, play_full, random, wide};
+use cut_tests::{Plan, Tally, play_full_keeping, play_keeping, random_keeping, wide};
 use std::io;
 use std::ops::Range;
 
@@ -44,30 +44,30 @@ fn plan(choices: u32, growths: u32) -> Plan
 fn each(seed: u32, range: Range<u32>, bins: u32, plan: Plan, tally: &mut Tally) {
     let mut seed = seed;
     for buckets in range {
-        seed = play(&Told, seed, buckets, bins, plan, tally);
+        seed = play_keeping(&Told, seed, buckets, bins, plan, tally);
     }
 }
 
 // Without bits.
 fn carried(rt: &impl Print) -> io::Result<()> {
     let mut tally = Tally::default();
-    play_full(&Bare, &mut tally);
+    play_full_keeping(&Bare, &mut tally);
     wide(Flagged::all_bare(10), &mut tally);
-    play(&Bare, 1, 66, 1, plan(1, 65), &mut tally);
-    random(&Bare, 20_261_115, 400, plan(8, 12), &mut tally);
+    play_keeping(&Bare, 1, 66, 1, plan(1, 65), &mut tally);
+    random_keeping(&Bare, 20_261_115, 400, plan(8, 12), &mut tally);
     printed(rt, &tally)
 }
 
 // With bits.
 fn written(rt: &impl Print) -> io::Result<()> {
     let mut tally = Tally::default();
-    play_full(&Told, &mut tally);
+    play_full_keeping(&Told, &mut tally);
     wide(Flagged::all_told(10), &mut tally);
     each(3, 62..67, 4, plan(1, 3), &mut tally);
     each(5, 62..67, 3, plan(6, 4), &mut tally);
     each(7, 126..131, 8, plan(1, 2), &mut tally);
-    play(&Told, 1, 66, 1, plan(1, 65), &mut tally);
-    random(&Told, 20_261_118, 60, plan(8, 8), &mut tally);
+    play_keeping(&Told, 1, 66, 1, plan(1, 65), &mut tally);
+    random_keeping(&Told, 20_261_118, 60, plan(8, 8), &mut tally);
     printed(rt, &tally)
 }
 

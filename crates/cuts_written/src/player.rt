@@ -4,7 +4,7 @@ ghost use Rattle.cut_tests.specs.Counts.{Keeps};
 use crate::flagged::Flagged;
 use crate::pattern::Pattern;
 use cut_tests::{
-    Call, Calls, Case, Growth, LIST, List, Lists, Mover, Player, Tally, alike, rows_of,
+    Call, Calls, Case, Growth, KeepingPlayer, LIST, List, Lists, Mover, Tally, alike, rows_of,
 };
 
 // Calls without bits: all buckets are written.
@@ -77,7 +77,7 @@ fn whole(case: &Case<'_, '_, '_>, tally: &mut Tally)
     told.countings(&g, g.total, tally);
 }
 
-impl Player for Bare {
+impl KeepingPlayer for Bare {
     fn carry(&self, case: &Case<'_, '_, '_>, tally: &mut Tally) {
         let mover = Flagged::all_bare(case.growth.header.buckets);
         let mut words = [0; LIST];
@@ -93,7 +93,7 @@ impl Player for Bare {
     }
 }
 
-impl Player for Told {
+impl KeepingPlayer for Told {
     fn carry(&self, case: &Case<'_, '_, '_>, tally: &mut Tally) {
         whole(case, tally);
         for pattern in Pattern::ALL {

@@ -1,5 +1,5 @@
 use Rattle.cut_tests.specs.Counts.{Keeps}
-use Rattle.cuts_written.proofs.player.ToldPlayer.carry.Given as goal
+use Rattle.cuts_written.proofs.player.ToldKeepingPlayer.carry.Given as goal
 
 abbrev pub invariant-loop-pattern : goal.invariant-loop-pattern
 invariant-loop-pattern l = Keeps l.fn.tally l.tally
